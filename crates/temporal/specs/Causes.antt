@@ -1,0 +1,119 @@
+-- The number under which a commitment is refused is that of the first cause that applies, and no commitment is refused without one.
+use mathlib.Core.Path.{_≡_, refl}
+use mathlib.Core.Bool.{Bool, true, false, not, cond, _||_}
+use mathlib.Core.Logic.{_⊎_, inl, inr, _≢_}
+use Prim.Native.Nat.{ℕ}
+use native.Mathlib.Omega.{arith}
+use lib.Dec.{T, not-T, T-not, eqb, ltb, nltb→le, eqb→eq}
+use lib.Arith.{le→nltb}
+use Rattle.temporal.specs.Ticket.{Ticket, events, Distinct, Window, at, Fit, fits}
+use Rattle.temporal.specs.Ends.{fits-fit, fit-fits}
+use Rattle.temporal.specs.Plan.{State, Commitment, flagged, window, noEvent, notInside, cause}
+use Rattle.temporal.specs.Run.{Event, Inside, Acceptable, FirstCause, short, unfit, no-event, already, outside}
+
+-- ---- the tests of an event and of a window
+
+not-or : (a b : Bool) → T (not (a || b)) → T (not a) × T (not b)
+not-or true b t = absurd t
+not-or false b t = (tt, t)
+
+or-not : (a b : Bool) → T (not a) → T (not b) → T (not (a || b))
+or-not true b s t = s
+or-not false b s t = t
+
+event : (k : Ticket) (p : ℕ) → T (not (noEvent k p)) → Event k p
+event k p t =
+    let r = not-or (eqb p 0) (ltb (events k) p) t in
+    let nz : p ≢ 0 = λ q. T-not (eqb p 0) (r .0) (rw q tt) in
+    (omega (arith, nz), nltb→le (events k) p (r .1))
+
+event-test : (k : Ticket) (p : ℕ) → Event k p → T (not (noEvent k p))
+event-test k p e = or-not (eqb p 0) (ltb (events k) p) (not-T (eqb p 0) (λ t. omega (arith, eqb→eq p 0 t, e))) (le→nltb (events k) p (e .1))
+
+inside : (w v : Window) → T (not (notInside w v)) → Inside w v
+inside w v t =
+    let r = not-or (ltb (w .closes) (w .opens)) (ltb (w .opens) (v .opens) || ltb (v .closes) (w .closes)) t in
+    let q = not-or (ltb (w .opens) (v .opens)) (ltb (v .closes) (w .closes)) (r .1) in
+    (nltb→le (w .closes) (w .opens) (r .0), nltb→le (w .opens) (v .opens) (q .0), nltb→le (v .closes) (w .closes) (q .1))
+
+inside-test : (w v : Window) → Inside w v → T (not (notInside w v))
+inside-test w v i =
+    or-not (ltb (w .closes) (w .opens)) (ltb (w .opens) (v .opens) || ltb (v .closes) (w .closes)) (le→nltb (w .closes) (w .opens) (i .0))
+    (or-not (ltb (w .opens) (v .opens)) (ltb (v .closes) (w .closes)) (le→nltb (w .opens) (v .opens) (i .1)) (le→nltb (v .closes) (w .closes) (i .2)))
+
+-- ---- by the cause
+
+by : (b : Bool) (m x : ℕ) (P : ℕ → Type 0) → (T b → P m) → (T (not b) → P x) → P (cond b m x)
+by true m x P f g = f tt
+by false m x P f g = g tt
+
+not-not : (b : Bool) → T (not (not b)) → T b
+not-not true t = tt
+not-not false t = t
+
+module _ (s : State) (c : Commitment) (P : ℕ → Type 0) where
+  pub by-cause : (T (not (c .room)) → P 10)
+      → (T (c .room) → T (not (fits (s .ticket) (s .windows))) → P 15)
+      → (T (c .room) → T (fits (s .ticket) (s .windows)) → ¬ Event (s .ticket) (c .event) → P 11)
+      → (T (c .room) → T (fits (s .ticket) (s .windows)) → Event (s .ticket) (c .event) → T (flagged (s .flags) (c .event)) → P 12)
+      → (T (c .room) → T (fits (s .ticket) (s .windows)) → Event (s .ticket) (c .event) → T (not (flagged (s .flags) (c .event))) → ¬ Inside (window c) (at (s .windows) (c .event)) → P 13)
+      → (T (c .room) → T (fits (s .ticket) (s .windows)) → Event (s .ticket) (c .event) → T (not (flagged (s .flags) (c .event))) → Inside (window c) (at (s .windows) (c .event)) → P 0)
+      → P (cause s c)
+  unfolding cause
+  by-cause p10 p15 p11 p12 p13 p0 =
+      by (not (c .room)) 10 _ P p10 (λ x₀.
+      let r = not-not (c .room) x₀ in
+      by (not (fits (s .ticket) (s .windows))) 15 _ P (p15 r) (λ x₁.
+      let f = not-not (fits (s .ticket) (s .windows)) x₁ in
+      by (noEvent (s .ticket) (c .event)) 11 _ P (λ t. p11 r f (λ e. T-not (noEvent (s .ticket) (c .event)) (event-test (s .ticket) (c .event) e) t)) (λ x₂.
+      let e = event (s .ticket) (c .event) x₂ in
+      by (flagged (s .flags) (c .event)) 12 _ P (p12 r f e) (λ n.
+      by (notInside (window c) (at (s .windows) (c .event))) 13 0 P
+      (λ t. p13 r f e n (λ i. T-not (notInside (window c) (at (s .windows) (c .event))) (inside-test (window c) (at (s .windows) (c .event)) i) t))
+      (λ x₃. p0 r f e n (inside (window c) (at (s .windows) (c .event)) x₃))))))
+
+-- ---- the laws
+
+pub cause-first : (s : State) (c : Commitment) → Distinct (s .ticket) → FirstCause s c (cause s c) ⊎ ((cause s c ≡ 0) × Acceptable s c)
+cause-first s c d = by-cause s c (λ r. FirstCause s c r ⊎ ((r ≡ 0) × Acceptable s c))
+    (λ n. inl (short refl (T-not (c .room) n)))
+    (λ r n. inl (unfit refl r (λ f. T-not (fits (s .ticket) (s .windows)) n (fit-fits (s .ticket) d (s .windows) f))))
+    (λ r f n. inl (no-event refl r (fits-fit (s .ticket) (s .windows) f) n))
+    (λ r f e t. inl (already refl r (fits-fit (s .ticket) (s .windows) f) e t))
+    (λ r f e n o. inl (outside refl r (fits-fit (s .ticket) (s .windows) f) e n o))
+    (λ r f e n i. inr (refl, record { room = r; fit = fits-fit (s .ticket) (s .windows) f; event = e; free = n; ordered = i .0; after = i .1; before = i .2 }))
+
+-- a cause and none cannot be
+pub first-refuses : (s : State) (c : Commitment) (r : ℕ) → FirstCause s c r → ¬ Acceptable s c
+first-refuses s c r (short e n) a = n (a .room)
+first-refuses s c r (unfit e x n) a = n (a .fit)
+first-refuses s c r (no-event e x f n) a = n (a .event)
+first-refuses s c r (already e x f v t) a = T-not (flagged (s .flags) (c .event)) (a .free) t
+first-refuses s c r (outside e x f v t n) a = n (a .ordered, a .after, a .before)
+
+-- with fit windows it is not 15
+pub fit-cause : (s : State) (c : Commitment) → Distinct (s .ticket) → Fit (s .ticket) (s .windows) → cause s c ≢ 15
+fit-cause s c d f = by-cause s c (λ r. r ≢ 15)
+    (λ n q. omega arith)
+    (λ r n. absurd (T-not (fits (s .ticket) (s .windows)) n (fit-fits (s .ticket) d (s .windows) f)))
+    (λ r g n q. omega arith)
+    (λ r g e t q. omega arith)
+    (λ r g e n o q. omega arith)
+    (λ r g e n i q. omega arith)
+
+pub acceptable : (s : State) (c : Commitment) → T (eqb (cause s c) 0) → Acceptable s c
+acceptable s c = by-cause s c (λ r. T (eqb r 0) → Acceptable s c)
+    (λ n z. absurd z)
+    (λ r n z. absurd z)
+    (λ r f n z. absurd z)
+    (λ r f e t z. absurd z)
+    (λ r f e n o z. absurd z)
+    (λ r f e n i z. record { room = r; fit = fits-fit (s .ticket) (s .windows) f; event = e; free = n; ordered = i .0; after = i .1; before = i .2 })
+
+-- no commitment is refused without a cause
+pub acceptable-accepted : (s : State) (c : Commitment) → Distinct (s .ticket) → Acceptable s c → cause s c ≡ 0
+acceptable-accepted s c d a = go (cause-first s c d)
+  where
+    go : FirstCause s c (cause s c) ⊎ ((cause s c ≡ 0) × Acceptable s c) → cause s c ≡ 0
+    go (inl f) = absurd (first-refuses s c (cause s c) f a)
+    go (inr e) = e .0
