@@ -1,0 +1,54 @@
+-- `boxes` meets its contract. The invariant: the nodes below v have their boxes.
+use native.Mathlib.Omega.{arith}
+use borrow.Author.Needs.{needs}
+use Prim.Native.Nat.{_+_, _-_, _≤_, _<_}
+use mathlib.Core.Path.{_≡_, refl, _∙_}
+use lib.ListN.{length}
+use Rattle.network.specs.Stored.{at}
+use Rattle.network.specs.Edges.{Boxes, boxes-none, boxes-more}
+use Rattle.network.proofs.boxes.Statement.{statement}
+use Rattle.network.proofs.boxes.Tie as tie
+
+abbrev Inv-loop : tie.InvT-loop
+Inv-loop net₀ last low high v₀ net v = (0 < v) × (v ≤ last + 1) × (length net ≡ length net₀) × Boxes net v (at low) (at high)
+
+abbrev μ-loop : tie.MeasureT-loop
+μ-loop net₀ last low high v₀ net v = last + 1 - v
+
+loop-holds : tie.Need-loop-holds Inv-loop μ-loop
+loop-holds c = (omega arith, omega arith, refl, boxes-none _ _ _)
+
+put-box-requires : tie.Need-put-box-requires Inv-loop μ-loop
+put-box-requires c κs =
+    let h = c .before .before .before .before .loop .inv in
+    let b = c .before .before .before .before .before .before .pre .1 (c .before .before .before .before .loop .v) (h .0) (omega arith) in
+    (h .0, omega arith, omega arith, b .0, b .1)
+
+loop-again : tie.Need-loop-again Inv-loop μ-loop
+loop-again c =
+    let h = c .before .before .before .before .before .before .before .loop .inv in
+    let p = c .before .before .put-box .ensures in
+    (omega arith, omega arith, p .extends .long ∙ h .2, boxes-more (h .3) p)
+
+returns : tie.Need-returns Inv-loop μ-loop
+returns c =
+    let e : c .before .loop .v ≡ c .before .before .before .args .last + 1 = omega arith in
+    (c .before .loop .inv .2, rw e at (c .before .loop .inv .3))
+
+pub boxes-spec : {M : Type 1} → statement M
+boxes-spec =
+    tie.close
+    (tie.spec
+    Inv-loop
+    μ-loop
+    loop-holds
+    (λ c. search needs)
+    (λ c. search needs)
+    (λ c. search needs)
+    (λ c. search needs)
+    put-box-requires
+    (λ c. search needs)
+    (λ c. search needs)
+    loop-again
+    (λ c. search needs)
+    returns)

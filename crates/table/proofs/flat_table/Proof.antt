@@ -1,0 +1,122 @@
+-- `flat_table` meets its contract: each return is a row of the definition. Assumes nothing.
+use Prim.Native.Nat.{_≤_}
+use mathlib.Core.Path.{_≡_, sym, ap, _∙_}
+use mathlib.Core.Bool.{true, false}
+use mathlib.Core.List.{List}
+use native.Mathlib.Omega.{arith}
+use borrow.Author.Needs.{needs}
+use lib.ListN.{length}
+use Rattle.temporal.specs.Ticket.{Rule}
+use Rattle.temporal.specs.Run.{Valid}
+use Rattle.table.specs.Table.{ticketOf, rulesCause}
+use Rattle.table.specs.Causes.{cause-room, cause-horizon, cause-events, cause-count, cause-rules, cause-last, rules-valid, ticket-valid, refuses, accepts}
+use Rattle.table.specs.Matrix.{entry, Everywhere}
+use Rattle.table.specs.Start.{start}
+use Rattle.table.specs.Rules.{rulesOf, rulesOf-length, valid-arrays}
+use Rattle.table.specs.Answers.{start-floors, start-top, closed-small, closed-consistent, closed-distance, closed-none, written-filled}
+use Rattle.table.proofs.flat_table.Statement.{statement}
+use Rattle.table.proofs.flat_table.Tie as tie
+
+-- the rules that the arrays hold, as many as the count says
+abbrev held : tie.Start → List Rule
+held s = rulesOf (s .args .count) (s .args .rules .from) (s .args .rules .to) (s .args .rules .bound)
+
+held-length : (s : tie.Start) → length (held s) ≡ s .args .count
+held-length s = rulesOf-length (s .args .count) (s .args .rules .from) (s .args .rules .to) (s .args .rules .bound)
+
+-- no rule is refused, so the ticket is valid
+passed : (c : tie.Else5) → rulesCause (c .before .before .before .before .before .before .args .events) (held (c .before .before .before .before .before .before)) ≡ 0
+passed c = sym (c .before .rules-refusal .ensures) ∙ c .if5 .left
+
+valid : (c : tie.Else5) → Valid (ticketOf (c .before .before .before .before .before .before .args .horizon) (c .before .before .before .before .before .before .args .events) (held (c .before .before .before .before .before .before)))
+valid c =
+    let s = c .before .before .before .before .before .before in
+    ticket-valid (s .args .horizon) (s .args .events) (held s) (omega arith) (omega arith) (omega (arith, held-length s)) (passed c)
+
+-- the first entries
+same : (c : tie.After-ruled) → Everywhere (c .before .before .before .before .before .before .before .args .events) (λ i j. entry (c .ruled .result) i j
+    ≡ start (c .before .before .before .before .before .before .before .args .horizon) (held (c .before .before .before .before .before .before .before)) i j)
+same c i j li lj = c .ruled .ensures i j (omega arith) (omega arith)
+
+returns : tie.Need-returns
+returns c = λ rs long eq. refuses _ _ rs _ 10 (cause-room _ _ rs _ (c .if1 .taken)) (omega arith)
+
+returns-2 : tie.Need-returns-2
+returns-2 c = λ rs long eq. refuses _ _ rs _ 2 (cause-horizon _ _ rs _ (c .before .if1 .left) (c .if2 .taken)) (omega arith)
+
+returns-3 : tie.Need-returns-3
+returns-3 c = λ rs long eq. refuses _ _ rs _ 3 (cause-events _ _ rs _ (c .before .before .if1 .left) (c .before .if2 .left) (c .if3 .taken)) (omega arith)
+
+returns-4 : tie.Need-returns-4
+returns-4 c = λ rs long eq.
+    refuses _ _ rs _ 5 (cause-count _ _ rs _ (c .before .before .before .if1 .left) (c .before .before .if2 .left) (c .before .if3 .left) (omega arith)) (omega arith)
+
+rules-refusal-requires : tie.Need-rules-refusal-requires
+rules-refusal-requires c κs = search needs
+
+returns-5 : tie.Need-returns-5
+returns-5 c = λ rs long eq.
+    let s = c .before .before .before .before .before .before in
+    let number = c .before .rules-refusal .ensures in
+    rw (← (eq (omega arith)))
+    (refuses (s .args .horizon) (s .args .events) (held s) _ _
+    (cause-rules _ _ _ _ (omega arith) (omega arith) (omega arith) (omega (arith, held-length s)) (omega arith) ∙ sym number) (omega arith))
+
+ruled-requires : tie.Need-ruled-requires
+ruled-requires c κs =
+    let s = c .before .before .before .before .before .before in (
+      (omega arith, omega arith),
+      valid-arrays (s .args .events) (s .args .count) (s .args .rules .from) (s .args .rules .to) (s .args .rules .bound) (omega arith) (rules-valid _ _ (passed c)),
+    )
+
+closure-requires : tie.Need-closure-requires
+closure-requires c κs =
+    let v = valid (c .before) in
+    (omega arith, (start-floors _ _ _ v _ (same c), start-top _ _ _ v _ (same c)))
+
+write-requires : tie.Need-write-requires
+write-requires c κs =
+    let r = c .before .before .before .before in
+    ((omega arith, omega arith), closed-small _ _ _ (valid (r .before)) _ (same r) _ (c .before .before .before .closure .ensures) (c .before .before .if6 .taken))
+
+same-length : tie.Need-same-length
+same-length c = search needs
+
+returns-6 : tie.Need-returns-6
+returns-6 c = λ rs long eq.
+    let s = c .before .before .before .before .before .before .before .before .before .before .before .before .before in
+    let r = c .before .before .before .before .before .before in
+    let v = valid (r .before) in
+    let closed = c .before .before .before .before .before .closure .ensures in
+    let yes = c .before .before .before .before .if6 .taken in
+    let none = cause-last (s .args .horizon) (s .args .events) (held s) (length (s .args .out .now)) (omega arith) (omega arith) (omega arith) (omega (arith, held-length s)) true
+    (passed (r .before)) (closed-consistent _ _ _ v _ (same r) _ closed yes) in
+    let full = written-filled (s .args .events) (ticketOf (s .args .horizon) (s .args .events) (held s)) _ (s .args .out .now) _ (omega arith) (omega arith)
+    (closed-distance _ _ _ v _ (same r) _ closed yes) (c .before .write .ensures) in
+    rw (← (eq (omega arith)), full) (accepts (s .args .horizon) (s .args .events) (held s) (s .args .out .now) none)
+
+returns-7 : tie.Need-returns-7
+returns-7 c = λ rs long eq.
+    let s = c .before .before .before .before .before .before .before .before .before in
+    let r = c .before .before in
+    let v = valid (r .before) in
+    let none = cause-last (s .args .horizon) (s .args .events) (held s) (length (s .args .out .now)) (omega arith) (omega arith) (omega arith) (omega (arith, held-length s)) false
+    (passed (r .before)) (closed-none _ _ _ v _ (same r) _ (c .before .closure .ensures) (c .if6 .left)) in
+    rw (← (eq (omega arith))) (refuses (s .args .horizon) (s .args .events) (held s) (s .args .out .now) 9 none (omega arith))
+
+pub flat-table-spec : {M : Type 1} → statement M
+flat-table-spec =
+    tie.close
+    (tie.spec
+    returns
+    returns-2
+    returns-3
+    returns-4
+    rules-refusal-requires
+    returns-5
+    ruled-requires
+    closure-requires
+    write-requires
+    same-length
+    returns-6
+    returns-7)

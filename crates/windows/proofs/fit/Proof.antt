@@ -1,0 +1,26 @@
+-- `fit` meets its contract, by those of its parts.
+use native.Mathlib.Omega.{arith}
+use mathlib.Core.Path.{refl}
+use Rattle.windows.specs.Arrays.{valid-given}
+use Rattle.windows.specs.Fit.{laid-most, fit-answer}
+use Rattle.windows.proofs.fit.Statement.{statement}
+use Rattle.windows.proofs.fit.Tie as tie
+
+lay-requires : tie.Need-lay-requires
+lay-requires c κs = (valid-given (c .before .args .t) (c .before .pre .0) .few, record { long = refl; origin = refl })
+
+obeyed-requires : tie.Need-obeyed-requires
+obeyed-requires c κs =
+    let G = valid-given (c .before .before .before .args .t) (c .before .before .before .pre .0) in
+    (G, (omega arith, laid-most G _ _ (c .before .before .before .pre .1) (c .before .lay .ensures)))
+
+returns : tie.Need-returns
+returns c = fit-answer (valid-given (c .before .before .before .before .args .t) (c .before .before .before .before .pre .0)) _ _ (c .before .before .before .before .pre .1) (c .before .before .lay .ensures) _ (c .obeyed .ensures)
+
+pub fit-spec : {M : Type 1} → statement M
+fit-spec =
+    tie.close
+    (tie.spec
+    lay-requires
+    obeyed-requires
+    returns)

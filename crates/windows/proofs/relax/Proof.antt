@@ -1,0 +1,42 @@
+-- `relax` meets its contract. The invariant: the times stay within the horizon.
+use borrow.Author.Needs.{needs}
+use Rattle.windows.specs.Schedule.{Low}
+use Rattle.windows.proofs.relax.Statement.{statement}
+use Rattle.windows.proofs.relax.Tie as tie
+
+abbrev Inv-loop : tie.InvT-loop
+Inv-loop t times₀ left₀ times left = Low (t .events) (t .horizon) times
+
+abbrev μ-loop : tie.MeasureT-loop
+μ-loop t times₀ left₀ times left = left
+
+loop-holds : tie.Need-loop-holds Inv-loop μ-loop
+loop-holds c = c .before .pre .1
+
+round-requires : tie.Need-round-requires Inv-loop μ-loop
+round-requires c κs = (c .before .before .before .before .pre .0, c .before .before .loop .inv)
+
+loop-again : tie.Need-loop-again Inv-loop μ-loop
+loop-again c = c .before .round .ensures
+
+loop-again-2 : tie.Need-loop-again-2 Inv-loop μ-loop
+loop-again-2 c = c .before .round .ensures
+
+returns : tie.Need-returns Inv-loop μ-loop
+returns c = c .before .loop .inv
+
+pub relax-spec : {M : Type 1} → statement M
+relax-spec =
+    tie.close
+    (tie.spec
+    Inv-loop
+    μ-loop
+    (λ c. search needs)
+    loop-holds
+    round-requires
+    (λ c. search needs)
+    (λ c. search needs)
+    loop-again
+    (λ c. search needs)
+    loop-again-2
+    returns)

@@ -1,0 +1,138 @@
+-- Windows as a potential of 2 n + 1 nodes and back: node i is the open of event i, node n + i its close. Their weighted total is the potential's.
+-- Rests on temporal's total and network's.
+use mathlib.Core.Path.{_≡_, refl, sym, ap, ap₂, _∙_, subst}
+use mathlib.Core.Bool.{cond}
+use mathlib.Core.List.{List, [], _∷_}
+use mathlib.Core.Logic.{⊎-elim}
+use Prim.Native.Nat.{ℕ, zero, suc, _+_, _*_, _-_, _≤_, _<_}
+use native.Mathlib.Omega.{arith}
+use lib.Dec.{leb}
+use borrow.Author.Tests.{le-leb, lt-leb}
+use lib.ListN.{length, getD}
+use Rattle.temporal.specs.Lists.{tab, length-tab, getD-tab, below-or-not}
+use Rattle.temporal.specs.Ticket as ticket
+use Rattle.temporal.specs.Ticket.{Window, origin, weight, totalOf, total}
+use Rattle.network.specs.Sum.{sum, sum-cong, sum-first}
+use Rattle.network.specs.Network as network
+use Rattle.network.specs.Network.{over}
+use Rattle.network.specs.Stored.{at, stored}
+use Rattle.windows.specs.declared.Arrays.{Arrays}
+use Rattle.windows.specs.Arrays.{ticketIn, in-events, owner-in}
+
+-- the node of a point's close; for n = 0 the point itself
+unfoldable pub closeNode : ℕ → ℕ → ℕ
+closeNode n zero = 0
+closeNode n (suc i) = n + suc i
+
+pub close-start : (n q : ℕ) → q ≡ 0 → closeNode n q ≡ 0
+unfolding closeNode
+close-start n zero e = refl
+close-start n (suc i) e = absurd (omega arith)
+
+pub close-event : (n q : ℕ) → 0 < q → closeNode n q ≡ n + q
+unfolding closeNode
+close-event n zero l = absurd (omega arith)
+close-event n (suc i) l = refl
+
+pub close-self : (q : ℕ) → closeNode 0 q ≡ q
+unfolding closeNode
+close-self zero = refl
+close-self (suc i) = omega arith
+
+pub close-most : (n q : ℕ) → closeNode n q ≤ n + q
+unfolding closeNode
+close-most n zero = omega arith
+close-most n (suc i) = omega arith
+
+-- what holds of the opens and of the closes holds of every node above 0
+pub by-nodes : (P : ℕ → Type 0) (n : ℕ) → ((i : ℕ) → i < n → P (suc i)) → ((i : ℕ) → i < n → P (n + suc i)) → (v : ℕ) → 0 < v → v < 2 * n + 1 → P v
+by-nodes P n opens closes v lo hi =
+    ⊎-elim
+    (λ (l : v < suc n).
+    let e : suc (v - 1) ≡ v = omega arith in
+    subst P e (opens (v - 1) (omega arith)))
+    (λ (l : suc n ≤ v).
+    let e : n + suc (v - suc n) ≡ v = omega arith in
+    subst P e (closes (v - suc n) (omega arith)))
+    (below-or-not v (suc n))
+
+-- ---- there and back
+
+abbrev pub windowAt : ℕ → (ℕ → ℕ) → ℕ → Window
+windowAt n p i = record { opens = p (suc i); closes = p (n + suc i) }
+
+-- the windows of a potential
+unfoldable pub windowsOf : ℕ → (ℕ → ℕ) → List Window
+windowsOf n p = tab n (windowAt n p)
+
+-- the potential of windows
+unfoldable pub potentialOf : ℕ → List Window → ℕ → ℕ
+potentialOf n ws v = cond (leb v n) (ticket.at ws v .opens) (ticket.at ws (v - n) .closes)
+
+pub length-windows : (n : ℕ) (p : ℕ → ℕ) → length (windowsOf n p) ≡ n
+unfolding windowsOf
+length-windows n p = length-tab n (windowAt n p)
+
+windows-at : (n : ℕ) (p : ℕ → ℕ) (i : ℕ) → i < n → getD (windowsOf n p) i origin ≡ windowAt n p i
+unfolding windowsOf
+windows-at n p i l = getD-tab n (windowAt n p) origin i l
+
+module _ (n : ℕ) (ws : List Window) where
+  pub potential-open : (q : ℕ) → q ≤ n → potentialOf n ws q ≡ ticket.at ws q .opens
+  unfolding potentialOf
+  potential-open q l = rw (le-leb q n l)
+
+  pub potential-close : (q : ℕ) → 0 < q → potentialOf n ws (n + q) ≡ ticket.at ws q .closes
+  unfolding potentialOf
+  potential-close q l =
+      let e : n + q - n ≡ q = omega arith in
+      rw (lt-leb (n + q) n (omega arith), e)
+
+  pub potential-node : (q : ℕ) → potentialOf n ws (closeNode n q) ≡ ticket.at ws q .closes
+  unfolding closeNode
+  potential-node zero = potential-open 0 (omega arith)
+  potential-node (suc i) = potential-close (suc i) (omega arith)
+
+pub potential-windows : (n : ℕ) (p : ℕ → ℕ) → p 0 ≡ 0 → (v : ℕ) → v < 2 * n + 1 → potentialOf n (windowsOf n p) v ≡ p v
+potential-windows n p z zero l = potential-open n (windowsOf n p) 0 (omega arith) ∙ sym z
+potential-windows n p z (suc i) l = by-nodes (λ v. potentialOf n (windowsOf n p) v ≡ p v) n
+    (λ i li. potential-open n (windowsOf n p) (suc i) li ∙ ap (λ (w : Window). w .opens) (windows-at n p i li))
+    (λ i li. potential-close n (windowsOf n p) (suc i) (omega arith) ∙ ap (λ (w : Window). w .closes) (windows-at n p i li))
+    (suc i) (omega arith) l
+
+-- ---- the total width
+
+total-sum : (owners : List ℕ) (ws : List Window) → length owners ≡ length ws
+    → totalOf owners ws ≡ sum (length ws) (λ i. weight (getD owners i 0) * (getD ws i origin .closes - getD ws i origin .opens))
+unfolding sum
+total-sum [] [] e = refl
+total-sum [] (w ∷ ws) e = absurd (omega arith)
+total-sum (o ∷ os) [] e = absurd (omega arith)
+total-sum (o ∷ os) (w ∷ ws) e =
+    ap (λ x. weight o * (w .closes - w .opens) + x) (total-sum os ws (omega arith))
+    ∙ sym (sum-first (length ws) (λ i. weight (getD (o ∷ os) i 0) * (getD (w ∷ ws) i origin .closes - getD (w ∷ ws) i origin .opens)))
+
+-- of the windows of the ticket in arrays
+pub total-in : (t : Arrays) (ws : List Window) → length ws ≡ t .events
+    → total (ticketIn t) ws ≡ sum (t .events) (λ i. weight (at (t .owners) i) * (getD ws i origin .closes - getD ws i origin .opens))
+total-in t ws e =
+    total-sum (ticketIn t .owners) ws (in-events t ∙ sym e)
+    ∙ ap (λ k. sum k (λ i. weight (getD (ticketIn t .owners) i 0) * (getD ws i origin .closes - getD ws i origin .opens))) e
+    ∙ sum-cong _ _ (t .events) (λ i l. ap (λ o. weight o * (getD ws i origin .closes - getD ws i origin .opens)) (owner-in t i l))
+
+-- the network's total is the windows' where each event weighs what its owner does
+module _ (net : List ℕ) (m : ℕ) (t : Arrays) (w : ℕ → ℕ) (owned : (i : ℕ) → i < t .events → w (suc i) ≡ weight (at (t .owners) i)) where
+  pub total-potential : (ws : List Window) → length ws ≡ t .events → total (ticketIn t) ws ≡ network.total (stored (t .events) m net) w (potentialOf (t .events) ws)
+  unfolding over
+  total-potential ws e =
+      let n = t .events in
+      total-in t ws e
+      ∙ sum-cong _ _ n (λ i l. sym (ap₂ _*_ (owned i l) (ap₂ _-_ (potential-close n ws (suc i) (omega arith)) (potential-open n ws (suc i) l))))
+
+  pub total-windows : (p : ℕ → ℕ) → p 0 ≡ 0 → total (ticketIn t) (windowsOf (t .events) p) ≡ network.total (stored (t .events) m net) w p
+  unfolding over
+  total-windows p z =
+      let n = t .events in
+      total-potential (windowsOf n p) (length-windows n p)
+      ∙ sum-cong _ _ n (λ i l. ap (λ x. w (suc i) * x)
+      (ap₂ _-_ (potential-windows n p z (n + suc i) (omega arith)) (potential-windows n p z (suc i) (omega arith))))

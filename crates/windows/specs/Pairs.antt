@@ -1,0 +1,150 @@
+-- What the loops over the events store: two numbers an event at i and n + i, the weights, and the windows that a potential gives.
+use Prim.Native.Nat.{ℕ, zero, suc, _+_, _*_, _-_, _≤_, _<_}
+use mathlib.Core.Path.{_≡_, refl, sym, ap, _∙_}
+use mathlib.Core.Bool.{cond}
+use mathlib.Core.List.{List}
+use mathlib.Core.Logic.{⊎-elim}
+use native.Mathlib.Omega.{arith}
+use native.Mathlib.Nat.{eq-or-lt-of-le}
+use borrow.Author.Count.{below-none, below-more}
+use lib.Dec.{ltb}
+use lib.ListN.{length, set, length-set, replicate}
+use lib.Seq.{getD-set-same, getD-set-other}
+use Rattle.temporal.specs.Lists.{tab-cong, below-or-not}
+use Rattle.temporal.specs.Ticket.{weight, weight-small, Window}
+use Rattle.network.specs.Lists.{set-more, zeros-at}
+use Rattle.network.specs.Solve.{Weights}
+use Rattle.network.specs.Stored.{at}
+use Rattle.windows.specs.Arrays.{windowList, window-at, Within, within-same}
+use Rattle.windows.specs.Nodes.{by-nodes, windowsOf, potentialOf, potential-open, potential-close}
+
+-- ---- two numbers an event
+
+-- the pair of event i + 1 is stored
+pub record PutPair (xs xs' : List ℕ) (n i a b : ℕ) : Type 0 where
+  pub long : length xs' ≡ length xs
+  pub first : at xs' (suc i) ≡ a
+  pub second : at xs' (n + suc i) ≡ b
+  pub others : (j : ℕ) → (j ≡ suc i → ⊥) → (j ≡ n + suc i → ⊥) → at xs' j ≡ at xs j
+
+pub put-pair : (xs : List ℕ) (n i a b : ℕ) → i < n → n + suc i < length xs → PutPair xs (set (set xs (i + 1) a) (n + i + 1) b) n i a b
+put-pair xs n i a b lt l =
+    let p : i + 1 ≡ suc i = omega arith in
+    let q : n + i + 1 ≡ n + suc i = omega arith in
+    rw (p, q) record {
+      long = simp length-set refl;
+      first = getD-set-other (set xs (suc i) a) (n + suc i) (suc i) b 0 (λ e. omega arith) ∙ getD-set-same xs (suc i) a 0 (omega arith);
+      second = getD-set-same (set xs (suc i) a) (n + suc i) b 0 (omega (arith, length-set xs (suc i) a));
+      others = λ j x y. getD-set-other (set xs (suc i) a) (n + suc i) j b 0 y ∙ getD-set-other xs (suc i) j a 0 x;
+    }
+
+-- an array of the nodes, with 0 at the origin
+pub record Nodes (xs : List ℕ) : Type 0 where
+  pub long : length xs ≡ 81
+  pub origin : at xs 0 ≡ 0
+
+-- the pairs of the first k events
+pub record Pairs (n : ℕ) (f g : ℕ → ℕ) (xs : List ℕ) (k : ℕ) : Type 0 where
+  pub nodes : Nodes xs
+  pub first : (i : ℕ) → i < k → at xs (suc i) ≡ f i
+  pub second : (i : ℕ) → i < k → at xs (n + suc i) ≡ g i
+
+pub pairs-none : (n : ℕ) (f g : ℕ → ℕ) (xs : List ℕ) → Nodes xs → Pairs n f g xs 0
+pairs-none n f g xs h = record { nodes = h; first = below-none _; second = below-none _ }
+
+pub pairs-more : {n : ℕ} {f g : ℕ → ℕ} {xs xs' : List ℕ} {k : ℕ} → k < n → Pairs n f g xs k → PutPair xs xs' n k (f k) (g k) → Pairs n f g xs' (k + 1)
+pairs-more {n} {f} {g} {xs} {xs'} {k} lt P U = record {
+  nodes = record { long = U .long ∙ P .nodes .long; origin = U .others 0 (λ e. omega arith) (λ e. omega arith) ∙ P .nodes .origin };
+  first = below-more (λ i. at xs' (suc i) ≡ f i) k (λ i l. U .others (suc i) (λ e. omega arith) (λ e. omega arith) ∙ P .first i l) (U .first);
+  second = below-more (λ i. at xs' (n + suc i) ≡ g i) k (λ i l. U .others (n + suc i) (λ e. omega arith) (λ e. omega arith) ∙ P .second i l) (U .second);
+}
+
+-- the boxes of a commitment: the least open and the greatest close
+abbrev pub lowOpen : List ℕ → List ℕ → ℕ → ℕ
+lowOpen flags opens i = cond (ltb 0 (at flags i)) (at opens i) 0
+
+abbrev pub highClose : ℕ → List ℕ → List ℕ → ℕ → ℕ
+highClose h flags closes i = cond (ltb 0 (at flags i)) (at closes i) h
+
+pub record Limited (h n : ℕ) (flags opens closes low high : List ℕ) : Type 0 where
+  pub lows : Pairs n (lowOpen flags opens) (at closes) low n
+  pub highs : Pairs n (at opens) (highClose h flags closes) high n
+
+-- windows in arrays, laid out as a potential
+pub pairs-potential : {n : ℕ} {pot : List ℕ} (opens closes : List ℕ) → Pairs n (at opens) (at closes) pot n → (v : ℕ) → v < 2 * n + 1 → at pot v ≡ potentialOf n (windowList n opens closes) v
+pairs-potential {n} opens closes P zero l = P .nodes .origin ∙ sym (potential-open n (windowList n opens closes) 0 (omega arith))
+pairs-potential {n} {pot} opens closes P (suc u) l = by-nodes (λ v. at pot v ≡ potentialOf n (windowList n opens closes) v) n
+    (λ i li. P .first i li ∙ sym (potential-open n (windowList n opens closes) (suc i) li ∙ ap (λ (w : Window). w .opens) (window-at n opens closes i li)))
+    (λ i li. P .second i li ∙ sym (potential-close n (windowList n opens closes) (suc i) (omega arith) ∙ ap (λ (w : Window). w .closes) (window-at n opens closes i li)))
+    (suc u) (omega arith) l
+
+pub replicate-most : (m x i : ℕ) → at (replicate m x) i ≤ x
+replicate-most zero x i = omega arith
+replicate-most (suc m) x zero = omega arith
+replicate-most (suc m) x (suc i) = replicate-most m x i
+
+-- ---- weights
+
+-- the weights of the first k events' owners, and 0 elsewhere
+pub record Weighs (owners xs : List ℕ) (k : ℕ) : Type 0 where
+  pub long : length xs ≡ 81
+  pub none : at xs 0 ≡ 0
+  pub owned : (i : ℕ) → i < k → at xs (suc i) ≡ weight (at owners i)
+  pub past : (v : ℕ) → k < v → at xs v ≡ 0
+
+pub weighs-none : (owners : List ℕ) → Weighs owners (replicate 81 0) 0
+weighs-none owners = record { long = refl; none = refl; owned = below-none _; past = λ v l. zeros-at 81 v }
+
+pub weighs-more : {owners xs : List ℕ} {k x : ℕ} → k < 40 → x ≡ weight (at owners k) → Weighs owners xs k → Weighs owners (set xs (k + 1) x) (k + 1)
+weighs-more {owners} {xs} {k} {x} l e W =
+    let one : k + 1 ≡ suc k = omega arith in
+    rw one record {
+      long = simp length-set (W .long);
+      none = getD-set-other xs (suc k) 0 x 0 (λ q. omega arith) ∙ W .none;
+      owned = λ i li.
+          ⊎-elim
+          (λ (q : i ≡ k). rw q (getD-set-same xs (suc k) x 0 (omega (arith, W .long)) ∙ e))
+          (λ (q : i < k). getD-set-other xs (suc k) (suc i) x 0 (λ s. omega arith) ∙ W .owned i q)
+          (eq-or-lt-of-le (omega arith));
+      past = λ v lv. getD-set-other xs (suc k) v x 0 (λ q. omega arith) ∙ W .past v (omega arith);
+    }
+
+pub weighs-weights : {owners xs : List ℕ} {n : ℕ} → Weighs owners xs n → Weights n xs
+weighs-weights {owners} {xs} {n} W = record { long = W .long; small = small; none = W .none; past = W .past }
+  where
+    small : (v : ℕ) → at xs v ≤ 3
+    small zero = omega (arith, W .none)
+    small (suc i) = ⊎-elim (λ (l : i < n). rw (W .owned i l) (weight-small (at owners i))) (λ (l : n ≤ i). omega (arith, W .past (suc i) (omega arith))) (below-or-not i n)
+
+-- ---- the windows of a potential, in arrays
+
+-- the first k of them; only the first k places differ
+pub record Read (n : ℕ) (pot opens closes opens' closes' : List ℕ) (k : ℕ) : Type 0 where
+  pub opens-within : Within k opens opens'
+  pub closes-within : Within k closes closes'
+  pub opened : (i : ℕ) → i < k → at opens' i ≡ at pot (i + 1)
+  pub closed : (i : ℕ) → i < k → at closes' i ≡ at pot (n + i + 1)
+
+within-more : {xs xs' : List ℕ} {k : ℕ} (x : ℕ) → Within k xs xs' → Within (k + 1) xs (set xs' k x)
+within-more {xs} {xs'} {k} x W = record { long = simp length-set (W .long); past = λ i l. getD-set-other xs' k i x 0 (λ q. omega arith) ∙ W .past i (omega arith) }
+
+pub read-none : (n : ℕ) (pot opens closes : List ℕ) → Read n pot opens closes opens closes 0
+read-none n pot opens closes = record { opens-within = within-same 0 opens; closes-within = within-same 0 closes; opened = below-none _; closed = below-none _ }
+
+pub read-more : {n : ℕ} {pot opens closes opens' closes' : List ℕ} {k : ℕ} → k < length opens → k < length closes → Read n pot opens closes opens' closes' k
+    → Read n pot opens closes (set opens' k (at pot (k + 1))) (set closes' k (at pot (n + k + 1))) (k + 1)
+read-more {n} {pot} {opens} {closes} {opens'} {closes'} {k} lo lc R = record {
+  opens-within = within-more (at pot (k + 1)) (R .opens-within);
+  closes-within = within-more (at pot (n + k + 1)) (R .closes-within);
+  opened = set-more (λ i x. x ≡ at pot (i + 1)) opens' k (at pot (k + 1)) (omega (arith, R .opens-within .long)) (R .opened) refl;
+  closed = set-more (λ i x. x ≡ at pot (n + i + 1)) closes' k (at pot (n + k + 1)) (omega (arith, R .closes-within .long)) (R .closed) refl;
+}
+
+pub read-windows : {n : ℕ} {pot opens closes opens' closes' : List ℕ} → Read n pot opens closes opens' closes' n → windowList n opens' closes' ≡ windowsOf n (at pot)
+unfolding windowList windowsOf
+read-windows {n} {pot} {opens} {closes} {opens'} {closes'} R = tab-cong n _ _ (λ i l.
+    let p : i + 1 ≡ suc i = omega arith in
+    let q : n + i + 1 ≡ n + suc i = omega arith in
+    let a = R .opened i l ∙ ap (at pot) p in
+    let b = R .closed i l ∙ ap (at pot) q in
+    λ j. record { opens = a j; closes = b j })

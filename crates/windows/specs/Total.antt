@@ -1,0 +1,23 @@
+-- The weighted total of windows in arrays, event by event.
+use Prim.Native.Nat.{ℕ, _*_, _-_, _≤_}
+use mathlib.Core.Path.{_≡_, ap, _∙_}
+use mathlib.Core.List.{List}
+use native.Mathlib.Omega.{arith}
+use native.Mathlib.Nat.{mul-le-mul-left, mul-le-mul-right}
+use Rattle.temporal.specs.Ticket.{Window, weight, weight-small, total}
+use Rattle.network.specs.Sum.{sum, sum-cong}
+use Rattle.network.specs.Stored.{at}
+use Rattle.windows.specs.declared.Arrays.{Arrays}
+use Rattle.windows.specs.Arrays.{ticketIn, windowList, length-window-list, window-at}
+use Rattle.windows.specs.Nodes.{total-in}
+
+abbrev pub part : List ℕ → List ℕ → List ℕ → ℕ → ℕ
+part owners opens closes i = weight (at owners i) * (at closes i - at opens i)
+
+pub part-most : (owner x : ℕ) → x ≤ 1000000 → weight owner * x ≤ 3000000
+part-most owner x l = omega (arith, mul-le-mul-left (weight owner) l, mul-le-mul-right 1000000 (weight-small owner))
+
+pub total-parts : (t : Arrays) (opens closes : List ℕ) → total (ticketIn t) (windowList (t .events) opens closes) ≡ sum (t .events) (part (t .owners) opens closes)
+total-parts t opens closes =
+    total-in t (windowList (t .events) opens closes) (length-window-list (t .events) opens closes)
+    ∙ sum-cong _ _ (t .events) (λ i l. ap (λ (w : Window). weight (at (t .owners) i) * (w .closes - w .opens)) (window-at (t .events) opens closes i l))

@@ -1,0 +1,509 @@
+// Planning and commitment on arrays: a schedule by a network of points, the best windows by a network of opens and closes.
+// A ticket stands in `Arrays`; event i + 1 has the places i of its arrays. An edge is four numbers of the lent slice: tail, head, biased cost, flow.
+
+ghost use mathlib.Core.Path.{_≡_};
+ghost use mathlib.Core.Bool.{cond, true, false};
+ghost use Prim.Native.Nat.{ℕ, suc, _+_, _*_, _-_, _<_, _≤_};
+ghost use lib.Dec.{ltb};
+ghost use lib.ListN.{length};
+ghost use Rattle.temporal.specs.Bound.{above, below, biased};
+ghost use Rattle.temporal.specs.Ticket as ticket;
+ghost use Rattle.temporal.specs.Best.{Chosen};
+ghost use Rattle.temporal.specs.Run.{Valid};
+ghost use Rattle.network.specs.Stored.{at};
+ghost use Rattle.network.specs.Edges.{Extends, Put};
+ghost use Rattle.network.specs.Grow.{Growing, Admits};
+ghost use Rattle.windows.specs.Arrays.{ticketIn, windowList, Given, Lie, Room, Within, Planned, Committed};
+ghost use Rattle.windows.specs.Nodes.{closeNode};
+ghost use Rattle.windows.specs.Rules.{Small, Tests, Obeyed};
+ghost use Rattle.windows.specs.Network.{Order, Ruled, Built, Limits, Allowed};
+ghost use Rattle.windows.specs.Pairs.{Nodes, PutPair, Pairs, Limited, Weighs, Read};
+ghost use Rattle.windows.specs.Schedule.{Low, Decided};
+ghost use Rattle.windows.specs.Settle.{Started, Asked};
+
+const BIAS: u32 = 1_000_000;
+
+// A ticket: the first `events` owners and the first `rules` rules count.
+pub struct Arrays {
+    pub horizon: u32,
+    pub events: usize,
+    pub owners: [u8; 40],
+    pub rules: usize,
+    pub from: [u8; 256],
+    pub to: [u8; 256],
+    pub bound: [i32; 256],
+}
+
+fn wide(x: u8) -> usize
+    ensures { λ r. ⌜ r ≡ x ⌝ }
+{
+    x as usize
+}
+
+// The biased cost of a bound.
+fn cost(z: i32) -> u32
+    requires { ⌜ (above z ≤ 1000000) × (below z ≤ 1000000) ⌝ }
+    ensures { λ r. ⌜ r ≡ biased z ⌝ }
+{
+    if 0 <= z {
+        BIAS + (z as u32)
+    } else {
+        let k = -1 - z;
+        999_999 - (k as u32)
+    }
+}
+
+// The node of a point's close; for n = 0 the point itself.
+fn close_node(n: usize, point: usize) -> usize
+    requires { ⌜ (n ≤ 40) × (point ≤ 40) ⌝ }
+    ensures { λ r. ⌜ r ≡ closeNode n point ⌝ }
+{
+    if point == 0 { 0 } else { n + point }
+}
+
+// Whether a rule holds of the times of nodes, from the node of `from` to the close of `to`.
+fn holds(pot: &[u32; 81], events: usize, n: usize, from: u8, to: u8, bound: i32) -> bool
+    requires { ⌜ Small events from to bound ⌝ }
+    requires { ⌜ (events ≤ 40) × (n ≤ events) × ((v : ℕ) → v ≤ n + events → at (now pot) v ≤ 1000000) ⌝ }
+    ensures { λ r. ⌜ Tests r (at (now (pot .entry)) (closeNode n to) + 1000000 ≤ at (now (pot .entry)) from + biased bound) ⌝ }
+{
+    let a = wide(from);
+    let b = close_node(n, wide(to));
+    let c = cost(bound);
+    if pot[b] + BIAS <= pot[a] + c {
+        return true;
+    }
+    false
+}
+
+// Whether all rules hold.
+fn obeyed(t: Arrays, n: usize, pot: &[u32; 81]) -> bool
+    requires { ⌜ Given t ⌝ }
+    requires { ⌜ (n ≤ t .events) × ((v : ℕ) → v ≤ n + t .events → at (now pot) v ≤ 1000000) ⌝ }
+    ensures { λ r. ⌜ Tests r (Obeyed t n (at (now (pot .entry)))) ⌝ }
+{
+    let events = t.events;
+    let m = t.rules;
+    let mut j = 0;
+    while j < m {
+        let from = t.from[j];
+        let to = t.to[j];
+        let bound = t.bound[j];
+        if holds(pot, events, n, from, to, bound) {
+            j += 1;
+        } else {
+            return false;
+        }
+    }
+    true
+}
+
+// Store, for each event, the edge that keeps its open at most its close.
+fn order(net: &mut [u32], n: usize)
+    requires { ⌜ (n ≤ 40) × (20 * n ≤ length (now net)) ⌝ }
+    ensures { λ _. ⌜ Extends (now (net .entry)) (now (net .exit)) (4 * n) ⌝ }
+    ensures { λ _. ⌜ Order (now (net .exit)) n n ⌝ }
+{
+    let mut i = 0;
+    while i < n {
+        network::put(net, 4 * n + i, n + i + 1, i + 1, BIAS);
+        i += 1;
+    }
+}
+
+// Store the rule 'from to: bound' as edge e of the window network.
+fn put_rule(net: &mut [u32], e: usize, n: usize, from: u8, to: u8, bound: i32)
+    requires { ⌜ Small n from to bound ⌝ }
+    requires { ⌜ (n ≤ 40) × (4 * e + 3 < length (now net)) ⌝ }
+    ensures { λ _. ⌜ Put (now (net .entry)) (now (net .exit)) e from (closeNode n to) (biased bound) ⌝ }
+{
+    let head = close_node(n, wide(to));
+    network::put(net, e, wide(from), head, cost(bound));
+}
+
+// Store all rules.
+fn put_rules(net: &mut [u32], t: Arrays)
+    requires { ⌜ Given t ⌝ }
+    requires { ⌜ 20 * t .events + 4 * t .rules ≤ length (now net) ⌝ }
+    ensures { λ _. ⌜ Extends (now (net .entry)) (now (net .exit)) (5 * t .events) ⌝ }
+    ensures { λ _. ⌜ Ruled (now (net .exit)) t (t .events) (5 * t .events) (t .rules) ⌝ }
+{
+    let n = t.events;
+    let m = t.rules;
+    let mut j = 0;
+    while j < m {
+        let from = t.from[j];
+        let to = t.to[j];
+        let bound = t.bound[j];
+        put_rule(net, 5 * n + j, n, from, to, bound);
+        j += 1;
+    }
+}
+
+// Store the window network: the boxes of all opens and closes, their order, and the rules.
+fn build(net: &mut [u32], t: Arrays, low: &[u32; 81], high: &[u32; 81])
+    requires { ⌜ Given t ⌝ }
+    requires { ⌜ 20 * t .events + 4 * t .rules ≤ length (now net) ⌝ }
+    requires { ⌜ Limits t (at (now low)) (at (now high)) ⌝ }
+    ensures { λ _. ⌜ Built (now (net .exit)) t (at (now (low .entry))) (at (now (high .entry))) ⌝ }
+    ensures { λ _. ⌜ length (now (net .exit)) ≡ length (now (net .entry)) ⌝ }
+{
+    let n = t.events;
+    network::boxes(net, 2 * n, low, high);
+    order(net, n);
+    put_rules(net, t);
+}
+
+// Store a at the open of event i + 1 and b at its close.
+fn put_pair(xs: &mut [u32; 81], n: usize, i: usize, a: u32, b: u32)
+    requires { ⌜ (n ≤ 40) × (i < n) × (length (now xs) ≡ 81) ⌝ }
+    ensures { λ _. ⌜ PutPair (now (xs .entry)) (now (xs .exit)) n i a b ⌝ }
+{
+    xs[i + 1] = a;
+    xs[n + i + 1] = b;
+}
+
+// The potential of windows.
+fn lay(n: usize, opens: &[u32; 40], closes: &[u32; 40], pot: &mut [u32; 81])
+    requires { ⌜ n ≤ 40 ⌝ }
+    requires { ⌜ Nodes (now pot) ⌝ }
+    ensures { λ _. ⌜ Pairs n (at (now (opens .entry))) (at (now (closes .entry))) (now (pot .exit)) n ⌝ }
+{
+    let mut i = 0;
+    while i < n {
+        put_pair(pot, n, i, opens[i], closes[i]);
+        i += 1;
+    }
+}
+
+// The weights of the events, each that of its owner.
+fn weigh(n: usize, owners: &[u8; 40], weight: &mut [u32; 81])
+    requires { ⌜ n ≤ 40 ⌝ }
+    requires { ⌜ Weighs (now owners) (now weight) 0 ⌝ }
+    ensures { λ _. ⌜ Weighs (now (owners .entry)) (now (weight .exit)) n ⌝ }
+{
+    let mut i = 0;
+    while i < n {
+        weight[i + 1] = temporal::weight(owners[i]);
+        i += 1;
+    }
+}
+
+// The windows of a potential.
+fn read_windows(n: usize, pot: &[u32; 81], opens: &mut [u32; 40], closes: &mut [u32; 40])
+    requires { ⌜ n ≤ 40 ⌝ }
+    requires { ⌜ (length (now opens) ≡ 40) × (length (now closes) ≡ 40) ⌝ }
+    ensures { λ _. ⌜ Read n (now (pot .entry)) (now (opens .entry)) (now (closes .entry)) (now (opens .exit)) (now (closes .exit)) n ⌝ }
+{
+    let mut i = 0;
+    while i < n {
+        opens[i] = pot[i + 1];
+        closes[i] = pot[n + i + 1];
+        i += 1;
+    }
+}
+
+// From a potential within the boxes to the best windows within them.
+fn settle(
+    net: &mut [u32],
+    t: Arrays,
+    low: &[u32; 81],
+    high: &[u32; 81],
+    pot: &mut [u32; 81],
+    opens: &mut [u32; 40],
+    closes: &mut [u32; 40],
+)
+    requires { ⌜ Given t ⌝ }
+    requires { ⌜ Room t (now net) (now opens) (now closes) ⌝ }
+    requires { ⌜ Started t (at (now low)) (at (now high)) (now pot) ⌝ }
+    ensures { λ _. ⌜ Chosen (ticketIn t) (Allowed t (at (now (low .entry))) (at (now (high .entry)))) (windowList (t .events) (now (opens .exit)) (now (closes .exit))) ⌝ }
+    ensures { λ _. ⌜ Within (t .events) (now (opens .entry)) (now (opens .exit)) × Within (t .events) (now (closes .entry)) (now (closes .exit)) ⌝ }
+    ensures { λ _. ⌜ length (now (net .exit)) ≡ length (now (net .entry)) ⌝ }
+{
+    let n = t.events;
+    let m = t.rules;
+    let mut weight = [0u32; 81];
+    weigh(n, &t.owners, &mut weight);
+    build(net, t, low, high);
+    network::solve(net, 5 * n + m, n, pot, &weight);
+    read_windows(n, pot, opens, closes);
+}
+
+// a where the flag is set, else b.
+fn pick(flag: u8, a: u32, b: u32) -> u32
+    ensures { λ r. ⌜ r ≡ cond (ltb 0 flag) a b ⌝ }
+{
+    if 0 < flag { a } else { b }
+}
+
+// The boxes of a commitment: a window whose flag is set stays, another may grow.
+fn limits(
+    horizon: u32,
+    n: usize,
+    flags: &[u8; 40],
+    opens: &[u32; 40],
+    closes: &[u32; 40],
+    low: &mut [u32; 81],
+    high: &mut [u32; 81],
+)
+    requires { ⌜ n ≤ 40 ⌝ }
+    requires { ⌜ Nodes (now low) × Nodes (now high) ⌝ }
+    ensures { λ _. ⌜ Limited horizon n (now (flags .entry)) (now (opens .entry)) (now (closes .entry)) (now (low .exit)) (now (high .exit)) ⌝ }
+{
+    let mut i = 0;
+    while i < n {
+        put_pair(low, n, i, pick(flags[i], opens[i], 0), closes[i]);
+        put_pair(high, n, i, opens[i], pick(flags[i], closes[i], horizon));
+        i += 1;
+    }
+}
+
+// Raise the time of `from` to what the rule asks. 0: the rule held, 1: raised, 2: it cannot be raised so far.
+fn raise(times: &mut [u32; 81], n: usize, horizon: u32, from: u8, to: u8, bound: i32) -> u32
+    requires { ⌜ Low n horizon (now times) ⌝ }
+    requires { ⌜ Small n from to bound ⌝ }
+    requires { ⌜ (n ≤ 40) × (horizon ≤ 1000000) ⌝ }
+    ensures { λ _. ⌜ Low n horizon (now (times .exit)) ⌝ }
+{
+    let a = wide(from);
+    let b = wide(to);
+    let c = cost(bound);
+    if times[b] + BIAS <= times[a] + c {
+        return 0;
+    }
+    let x = times[b] + BIAS - c;
+    if a == 0 {
+        return 2;
+    }
+    if horizon < x {
+        return 2;
+    }
+    times[a] = x;
+    1
+}
+
+// Raise the times once for each rule. Whether another round may help.
+fn round(t: Arrays, times: &mut [u32; 81]) -> bool
+    requires { ⌜ Given t ⌝ }
+    requires { ⌜ Low (t .events) (t .horizon) (now times) ⌝ }
+    ensures { λ _. ⌜ Low (t .events) (t .horizon) (now (times .exit)) ⌝ }
+{
+    let n = t.events;
+    let m = t.rules;
+    let h = t.horizon;
+    let mut more = false;
+    let mut j = 0;
+    while j < m {
+        let from = t.from[j];
+        let to = t.to[j];
+        let bound = t.bound[j];
+        let r = raise(times, n, h, from, to, bound);
+        if r == 2 {
+            return false;
+        }
+        if r == 1 {
+            more = true;
+        }
+        j += 1;
+    }
+    more
+}
+
+// Raise the times, in rounds, until the rules hold or it cannot be: a schedule has one for each point.
+fn relax(t: Arrays, times: &mut [u32; 81])
+    requires { ⌜ Given t ⌝ }
+    requires { ⌜ Low (t .events) (t .horizon) (now times) ⌝ }
+    ensures { λ _. ⌜ Low (t .events) (t .horizon) (now (times .exit)) ⌝ }
+{
+    let mut left = t.events + 2;
+    while 0 < left {
+        if round(t, times) {
+            left -= 1;
+        } else {
+            left = 0;
+        }
+    }
+}
+
+// Add rule j to the network of the points, with the times moved as need be. Whether it can be kept.
+fn admit_rule(
+    net: &mut [u32],
+    n: usize,
+    j: usize,
+    tails: &mut [u32; 400],
+    heads: &mut [u32; 400],
+    times: &mut [u32; 81],
+    from: u8,
+    to: u8,
+    bound: i32,
+) -> bool
+    requires { ⌜ Growing (now net) (2 * n + j) (n + 1) (now times) (now tails) (now heads) ⌝ }
+    requires { ⌜ Small n from to bound ⌝ }
+    requires { ⌜ (n ≤ 40) × (j < 256) × (4 * (2 * n + j) + 3 < length (now net)) ⌝ }
+    ensures { λ r. ⌜ Admits (now (net .entry)) (now (net .exit)) (2 * n + j) (n + 1) (now (times .exit)) (now (tails .exit)) (now (heads .exit)) from to (biased bound) r ⌝ }
+{
+    network::admit(
+        net,
+        2 * n + j,
+        n + 1,
+        tails,
+        heads,
+        times,
+        wide(from),
+        wide(to),
+        cost(bound),
+    )
+}
+
+// From any times within the horizon to those of a schedule, where there is one: the rules are added one after the other.
+fn search(net: &mut [u32], t: Arrays, times: &mut [u32; 81]) -> bool
+    requires { ⌜ Given t ⌝ }
+    requires { ⌜ 8 * t .events + 4 * t .rules ≤ length (now net) ⌝ }
+    requires { ⌜ Low (t .events) (t .horizon) (now times) ⌝ }
+    ensures { λ r. ⌜ Decided t (now (times .exit)) r ⌝ }
+    ensures { λ _. ⌜ length (now (net .exit)) ≡ length (now (net .entry)) ⌝ }
+{
+    let n = t.events;
+    let m = t.rules;
+    let low = [0u32; 81];
+    let high = [t.horizon; 81];
+    let mut tails = [0u32; 400];
+    let mut heads = [0u32; 400];
+    network::boxes(net, n, &low, &high);
+    let mut j = 0;
+    while j < m {
+        let from = t.from[j];
+        let to = t.to[j];
+        let bound = t.bound[j];
+        let met = admit_rule(net, n, j, &mut tails, &mut heads, times, from, to, bound);
+        if met {
+            j += 1;
+        } else {
+            return false;
+        }
+    }
+    true
+}
+
+// The times of a schedule, where there is one.
+fn schedule(net: &mut [u32], t: Arrays, times: &mut [u32; 81]) -> bool
+    requires { ⌜ Given t ⌝ }
+    requires { ⌜ 8 * t .events + 4 * t .rules ≤ length (now net) ⌝ }
+    requires { ⌜ Low (t .events) (t .horizon) (now times) ⌝ }
+    ensures { λ r. ⌜ Decided t (now (times .exit)) r ⌝ }
+    ensures { λ _. ⌜ length (now (net .exit)) ≡ length (now (net .entry)) ⌝ }
+{
+    relax(t, times);
+    if obeyed(t, 0, times) {
+        return true;
+    }
+    search(net, t, times)
+}
+
+// The potential of windows that open and close at the times.
+fn spread(n: usize, times: &[u32; 81], pot: &mut [u32; 81])
+    requires { ⌜ n ≤ 40 ⌝ }
+    requires { ⌜ Nodes (now pot) ⌝ }
+    ensures { λ _. ⌜ Pairs n (λ (i : ℕ). at (now (times .entry)) (suc i)) (λ (i : ℕ). at (now (times .entry)) (suc i)) (now (pot .exit)) n ⌝ }
+{
+    let mut i = 0;
+    while i < n {
+        put_pair(pot, n, i, times[i + 1], times[i + 1]);
+        i += 1;
+    }
+}
+
+// The windows of the plan; false where there is no schedule.
+pub fn plan_windows(
+    net: &mut [u32],
+    t: Arrays,
+    opens: &mut [u32; 40],
+    closes: &mut [u32; 40],
+) -> bool
+    requires { ⌜ Valid (ticketIn t) ⌝ }
+    requires { ⌜ Room t (now net) (now opens) (now closes) ⌝ }
+    ensures { λ r. ⌜ Planned t (now (opens .entry)) (now (closes .entry)) (now (opens .exit)) (now (closes .exit)) r ⌝ }
+    ensures { λ _. ⌜ length (now (net .exit)) ≡ length (now (net .entry)) ⌝ }
+{
+    let mut times = [0u32; 81];
+    if schedule(net, t, &mut times) {
+        let low = [0u32; 81];
+        let high = [t.horizon; 81];
+        let mut pot = [0u32; 81];
+        spread(t.events, &times, &mut pot);
+        settle(net, t, &low, &high, &mut pot, opens, closes);
+        return true;
+    }
+    false
+}
+
+// Commit an event to the window from first to last, and widen the windows of the events that are not committed.
+pub fn commit_window(
+    net: &mut [u32],
+    t: Arrays,
+    flags: &mut [u8; 40],
+    opens: &mut [u32; 40],
+    closes: &mut [u32; 40],
+    event: usize,
+    first: u32,
+    last: u32,
+)
+    requires { ⌜ Room t (now net) (now opens) (now closes) ⌝ }
+    requires { ⌜ Asked t (now flags) (now opens) (now closes) event first last ⌝ }
+    ensures { λ _. ⌜ Committed t (now (flags .entry)) (now (opens .entry)) (now (closes .entry)) (now (flags .exit)) (now (opens .exit)) (now (closes .exit)) event first last ⌝ }
+    ensures { λ _. ⌜ length (now (net .exit)) ≡ length (now (net .entry)) ⌝ }
+{
+    let i = event - 1;
+    flags[i] = 1;
+    opens[i] = first;
+    closes[i] = last;
+    let mut low = [0u32; 81];
+    let mut high = [0u32; 81];
+    let mut pot = [0u32; 81];
+    limits(
+        t.horizon,
+        t.events,
+        flags,
+        opens,
+        closes,
+        &mut low,
+        &mut high,
+    );
+    lay(t.events, opens, closes, &mut pot);
+    settle(net, t, &low, &high, &mut pot, opens, closes);
+}
+
+// Whether windows within the horizon are fit.
+pub fn fit(t: Arrays, opens: &[u32; 40], closes: &[u32; 40]) -> bool
+    requires { ⌜ Valid (ticketIn t) ⌝ }
+    requires { ⌜ Lie t (now opens) (now closes) ⌝ }
+    ensures { λ r. ⌜ ticket.fits (ticketIn t) (windowList (t .events) (now (opens .entry)) (now (closes .entry))) ≡ r ⌝ }
+{
+    let mut pot = [0u32; 81];
+    lay(t.events, opens, closes, &mut pot);
+    obeyed(t, t.events, &pot)
+}
+
+// What a window counts.
+fn part(owner: u8, opens: u32, closes: u32) -> u32
+    requires { ⌜ (opens ≤ closes) × (closes ≤ 1000000) ⌝ }
+    ensures { λ r. ⌜ (r ≡ ticket.weight owner * (closes - opens)) × (r ≤ 3000000) ⌝ }
+{
+    temporal::weight(owner) * (closes - opens)
+}
+
+// The weighted total width of windows within the horizon.
+pub fn total(t: Arrays, opens: &[u32; 40], closes: &[u32; 40]) -> u32
+    requires { ⌜ Valid (ticketIn t) ⌝ }
+    requires { ⌜ Lie t (now opens) (now closes) ⌝ }
+    ensures { λ r. ⌜ r ≡ ticket.total (ticketIn t) (windowList (t .events) (now (opens .entry)) (now (closes .entry))) ⌝ }
+{
+    let n = t.events;
+    let mut sum = 0;
+    let mut i = 0;
+    while i < n {
+        sum += part(t.owners[i], opens[i], closes[i]);
+        i += 1;
+    }
+    sum
+}
