@@ -282,8 +282,8 @@ fn raise(times: &mut [u32; 81], n: usize, horizon: u32, from: u8, to: u8, bound:
     1
 }
 
-// Raise the times once for each rule. Whether another round may help.
-fn round(t: Arrays, times: &mut [u32; 81]) -> bool
+// Raise the times, round by round over the rules, until a round changes none or one cannot be kept. A schedule takes a round for each point and one more: 42 of 257 steps.
+fn relax(t: Arrays, times: &mut [u32; 81])
     requires { ⌜ Given t ⌝ }
     requires { ⌜ Low (t .events) (t .horizon) (now times) ⌝ }
     ensures { λ _. ⌜ Low (t .events) (t .horizon) (now (times .exit)) ⌝ }
@@ -293,34 +293,27 @@ fn round(t: Arrays, times: &mut [u32; 81]) -> bool
     let h = t.horizon;
     let mut more = false;
     let mut j = 0;
-    while j < m {
-        let from = t.from[j];
-        let to = t.to[j];
-        let bound = t.bound[j];
-        let r = raise(times, n, h, from, to, bound);
-        if r == 2 {
-            return false;
-        }
-        if r == 1 {
-            more = true;
-        }
-        j += 1;
-    }
-    more
-}
-
-// Raise the times, in rounds, until the rules hold or it cannot be: a schedule has one for each point.
-fn relax(t: Arrays, times: &mut [u32; 81])
-    requires { ⌜ Given t ⌝ }
-    requires { ⌜ Low (t .events) (t .horizon) (now times) ⌝ }
-    ensures { λ _. ⌜ Low (t .events) (t .horizon) (now (times .exit)) ⌝ }
-{
-    let mut left = t.events + 2;
-    while 0 < left {
-        if round(t, times) {
-            left -= 1;
+    let mut steps = 10_794u32;
+    while 0 < steps {
+        steps -= 1;
+        if j < m {
+            let from = t.from[j];
+            let to = t.to[j];
+            let bound = t.bound[j];
+            let r = raise(times, n, h, from, to, bound);
+            if r == 2 {
+                return;
+            }
+            if r == 1 {
+                more = true;
+            }
+            j += 1;
         } else {
-            left = 0;
+            if !more {
+                return;
+            }
+            more = false;
+            j = 0;
         }
     }
 }

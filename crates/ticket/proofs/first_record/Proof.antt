@@ -10,7 +10,8 @@ use Rattle.temporal.specs.Ticket.{Ticket}
 use Rattle.ticket.specs.Format.{size, Entry, readTicket, readWindow}
 use Rattle.ticket.specs.Stored.{stored, answer, windowsOf, windowsAt, noRecord, planned}
 use Rattle.ticket.specs.Laws.{little-short}
-use Rattle.ticket.specs.Width.{many-fixed, many-length, window-fixed}
+use Rattle.ticket.specs.Width.{many-fixed, many-length}
+use Rattle.ticket.specs.Fields.{window-fixed}
 use Rattle.ticket.specs.Answers.{was-refused, windows-refused, windows-done}
 use Rattle.ticket.specs.Stages.{bad-ticket, no-count, bad-count, bad-windows, no-last, bad-last, whole-state}
 use Rattle.ticket.specs.Whole.{ticket-done, assembled-record}
@@ -67,7 +68,7 @@ returns c =
     let s = a .s .now in
     let r = c .before .before .first-ticket in
     let no = was-refused (λ y. y .number) (answer 0) (λ x v. refl) (λ k. refl) (readTicket s) (r .result) (r .ensures) (c .before .if1 .taken) in
-    c .refused-record .ensures ∙ ap noRecord (no .2) ∙ ap planned (sym (bad-ticket s (no .0) (no .1)))
+    c .refused-record .ensures ∙ ap noRecord (no .2) ∙ ap (planned 0) (sym (bad-ticket s (no .0) (no .1)))
 
 sub-if2 : tie.Need-sub-if2
 sub-if2 c = omega (arith, ticket-read c .4)
@@ -81,7 +82,7 @@ returns-2 c =
     let a = c .before .before .before .before .before .before .args in
     let s = a .s .now in
     let (t, et, st, nt, lt, ot) = ticket-read (c .before .before) in
-    c .refused-record2 .ensures ∙ ap planned (sym (no-count s t _ et (little-short 2 (drop (c .before .before .before .before .first-ticket .result .next) s) (rw length-drop (omega arith)))))
+    c .refused-record2 .ensures ∙ ap (planned 0) (sym (no-count s t _ et (little-short 2 (drop (c .before .before .before .before .first-ticket .result .next) s) (rw length-drop (omega arith)))))
 
 u16-at-requires : tie.Need-u16-at-requires
 u16-at-requires c κs = search needs
@@ -97,7 +98,7 @@ returns-3 c =
     let (t, et, st, nt, lt, ot) = ticket-read (c .before .before .before .before .before) in
     let n = c .before .before .before .u16-at in
     c .refused-record3 .ensures
-    ∙ ap planned (sym (bad-count s t _ et (n .result) _ (n .ensures) (λ q. c .before .if3 .taken (q ∙ sym (ap (λ y. y .events) st)))))
+    ∙ ap (planned 0) (sym (bad-count s t _ et (n .result) _ (n .ensures) (λ q. c .before .if3 .taken (q ∙ sym (ap (λ y. y .events) st)))))
 
 add-b : tie.Need-add-b
 add-b c = search needs
@@ -121,7 +122,7 @@ returns-4 c =
     let no = windows-refused (many (readWindow (t .horizon)) (n .result) (drop (c .before .before .before .before .before .before .before .before .before .first-ticket .result .next + 2) s)) (w .result)
     (w .ensures ∙ ap (λ y. windowsAt s (c .before .before .before .before .before .before .before .before .before .first-ticket .result .next + 2) (n .result) (y .horizon)) st) (c .before .if4 .taken) in
     c .refused-record4 .ensures ∙ ap noRecord (no .2)
-    ∙ ap planned (sym (bad-windows s t _ et (n .result) _ (n .ensures) same (no .0) (no .1)))
+    ∙ ap (planned 0) (sym (bad-windows s t _ et (n .result) _ (n .ensures) same (no .0) (no .1)))
 
 mul-d : tie.Need-mul-d
 mul-d c =
@@ -147,7 +148,7 @@ returns-5 c =
     let n = c .before .before .before .before .before .before .before .before .before .u16-at in
     let same = c .before .before .before .before .before .before .before .if3 .left ∙ ap (λ y. y .events) st in
     c .refused-record5 .ensures
-    ∙ ap planned (sym (no-last s t _ et (n .result) _ (n .ensures) same ws _ ew (little-short 2 (drop (c .before .before .before .before .before .before .before .before .before .before .before .before .before .first-ticket .result .next + 2 + 9 * n .result) s) (rw length-drop (omega arith)))))
+    ∙ ap (planned 0) (sym (no-last s t _ et (n .result) _ (n .ensures) same ws _ ew (little-short 2 (drop (c .before .before .before .before .before .before .before .before .before .before .before .before .before .first-ticket .result .next + 2 + 9 * n .result) s) (rw length-drop (omega arith)))))
 
 u16-at-requires-2 : tie.Need-u16-at-requires-2
 u16-at-requires-2 c κs = search needs
@@ -166,7 +167,7 @@ returns-6 c =
     let same = c .before .before .before .before .before .before .before .before .before .if3 .left ∙ ap (λ y. y .events) st in
     let k = c .before .before .u16-at2 in
     c .refused-record6 .ensures
-    ∙ ap planned (sym (bad-last s t _ et (n .result) _ (n .ensures) same ws _ ew (k .result) _ (k .ensures) (λ q. c .before .if6 .taken (q ∙ sym (ap (λ y. y .count) sw)))))
+    ∙ ap (planned 0) (sym (bad-last s t _ et (n .result) _ (n .ensures) same ws _ ew (k .result) _ (k .ensures) (λ q. c .before .if6 .taken (q ∙ sym (ap (λ y. y .count) sw)))))
 
 cast-if6 : tie.Need-cast-if6
 cast-if6 c = search needs
@@ -184,7 +185,7 @@ returns-7 c =
     let same = c .before .before .before .before .before .before .before .before .if3 .left ∙ ap (λ y. y .events) st in
     let k = c .before .u16-at2 in
     assembled-record _ _ (c .before .before .before .before .before .before .before .windows-at .result) t ws (k .result) s st sw (sym (c .if6 .left)) (omega (arith, nt, lw, length-map ws (λ (y : Entry). y .window)))
-    ∙ ap planned (sym (whole-state s t _ et (n .result) _ (n .ensures) same ws _ ew (k .result) _ (k .ensures) (c .if6 .left ∙ ap (λ y. y .count) sw)))
+    ∙ ap (planned 0) (sym (whole-state s t _ et (n .result) _ (n .ensures) same ws _ ew (k .result) _ (k .ensures) (c .if6 .left ∙ ap (λ y. y .count) sw)))
 
 pub first-record-spec : {M : Type 1} → statement M
 first-record-spec =

@@ -1,6 +1,6 @@
--- `ticket::first_ticket` meets its contract: a walk of its MIR, by hand. A `Reader` that one call returns is held in a local and passed to the next. All that the proof knows of `new` and of `next_ticket` is that each meets its contract.
--- The machine value that `new` returns is stored and passed on as it is. In a local of a body MIR erases the lifetime of the struct's type, so the value is shown to have the type at `erased`: what the struct owns does not say the lifetime's name.
--- Assumes nothing.
+-- `ticket::first_ticket` meets its contract. A reader that one call returns is held in a local and passed to the next.
+-- In a local the struct's type has its lifetime erased; what the reader owns does not name the lifetime.
+-- It rests on the contracts of `Reader::new` and `Reader::next_ticket` alone. Assumes nothing.
 use mathlib.Core.Path.{_≡_, refl, ap, _∙_}
 use Prim.Native.Nat.{ℕ}
 use mathlib.Core.List.{List, [], _∷_}

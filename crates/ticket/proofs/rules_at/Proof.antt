@@ -11,7 +11,7 @@ use Rattle.temporal.specs.Ticket.{Rule}
 use Rattle.ticket.specs.Format.{readRule}
 use Rattle.ticket.specs.Stored.{pad, rulesOf, noRules, allRuled}
 use Rattle.ticket.specs.Answers.{ruleOf, rule-refused, rule-done}
-use Rattle.ticket.specs.Width.{rule-fixed}
+use Rattle.ticket.specs.Fields.{rule-fixed}
 use mir.Syntax.{w32}
 use mir.ValLaws.{toZ-ofZ}
 use lib.Seq.{drop-drop}

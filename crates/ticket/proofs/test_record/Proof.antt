@@ -2,7 +2,6 @@
 use Prim.Native.Nat.{_≤_}
 use mathlib.Core.Path.{_≡_, sym, ap, _∙_}
 use mathlib.Core.List.{[]}
-use native.Mathlib.Omega.{arith}
 use Rattle.ticket.specs.Parser.{got, number}
 use Rattle.ticket.specs.Writing.{tests, testTicket, testWindow, verdict}
 use Rattle.ticket.specs.WritingLaws.{verdict-refused, verdict-passed, ticket-fixed, tests-fixed, window-test-fixed}

@@ -10,7 +10,8 @@ use Rattle.ticket.specs.Parser.{got, number, many}
 use Rattle.ticket.specs.Format.{readOwner, readRule}
 use Rattle.ticket.specs.Stored.{pad, noTicket, answer}
 use Rattle.ticket.specs.Laws.{little-short}
-use Rattle.ticket.specs.Width.{many-fixed, many-length, owner-fixed}
+use Rattle.ticket.specs.Width.{many-fixed, many-length}
+use Rattle.ticket.specs.Fields.{owner-fixed}
 use Rattle.ticket.specs.Answers.{owners-refused, owners-done, rules-refused, rules-done, assembled}
 use Rattle.ticket.specs.Stages.{no-horizon, bad-horizon, no-events, bad-events, bad-owners, no-rules, many-rules, bad-rules, whole}
 use borrow.Author.Needs.{needs}

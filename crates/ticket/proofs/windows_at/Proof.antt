@@ -10,9 +10,9 @@ use Rattle.ticket.specs.Parser.{many}
 use Rattle.temporal.specs.Run.{setFlags}
 use Rattle.ticket.specs.Format.{Entry, flagsIn, readWindow}
 use Rattle.ticket.specs.Writer.{flagByte}
-use Rattle.ticket.specs.Stored.{pad, windowed, windowsOf, allWindowed}
+use Rattle.ticket.specs.Stored.{pad, windowsOf, allWindowed}
 use Rattle.ticket.specs.Answers.{window-refused, window-done}
-use Rattle.ticket.specs.Width.{window-fixed}
+use Rattle.ticket.specs.Fields.{window-fixed}
 use Rattle.ticket.specs.WritingLaws.{flags-more}
 use Rattle.ticket.specs.Laws.{after, after-none, many-more, many-stop, many-done, pad-map}
 use Rattle.ticket.specs.declared.ReadWindow.{ReadWindow}

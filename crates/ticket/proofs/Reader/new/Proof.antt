@@ -1,6 +1,5 @@
--- `ticket::Reader::new` meets its contract: a walk of its MIR, by hand. A `Reader` is made of the slice passed and 0, in the result's local.
--- A `&[u8]` is Copy, so what it owns is had twice: once for src at exit, and once inside the result, beside the facts of at.
--- Assumes nothing.
+-- `ticket::Reader::new` meets its contract. The reader is made of the lent slice and the place 0.
+-- A shared slice is Copy, so what it owns is had twice: once for the slice at exit, once inside the reader. Assumes nothing.
 use mathlib.Core.Path.{refl}
 use Prim.Native.Nat.{ℕ}
 use mathlib.Core.List.{List, [], _∷_}

@@ -1,0 +1,40 @@
+// The two functions that a host program in C calls: planning and commitment on numbers and byte slices.
+// Each holds the scratch that crate `plan` is lent, so that number 10 says that the output is too short.
+ghost use mathlib.Core.Path.{_≡_};
+ghost use lib.ListN.{replicate};
+ghost use Rattle.plan.specs.Calls.{planning, committing};
+
+// The scratch of a call; as a call's result it is no list of 8,192 literals in the proofs.
+fn scratch() -> [u32; 8192]
+    ensures { λ r. ⌜ r ≡ replicate 8192 0 ⌝ }
+{
+    [0u32; 8192]
+}
+
+// The record of the plan of a ticket, at the start of `out`. The answer is 0, or the number of the first cause to refuse.
+#[no_mangle]
+pub extern "C" fn beyunlak_plan(ticket: &[u8], out: &mut [u8]) -> u32
+    ensures { λ r. ⌜ r ≡ planning (now (ticket .entry)) (now (out .entry)) (replicate 8192 0) .number ⌝ }
+    ensures { λ _. ⌜ now (out .exit) ≡ planning (now (ticket .entry)) (now (out .entry)) (replicate 8192 0) .out ⌝ }
+{
+    let mut lent = scratch();
+    let planned = plan::plan(ticket, out, &mut lent);
+    planned.number
+}
+
+// The record after `event` commits to `open` to `close`, at the start of `out`. The answer is 0, or the number of the first cause to refuse.
+#[no_mangle]
+pub extern "C" fn beyunlak_commit(
+    record: &[u8],
+    event: u32,
+    open: u32,
+    close: u32,
+    out: &mut [u8],
+) -> u32
+    ensures { λ r. ⌜ r ≡ committing (now («record» .entry)) event «open» close (now (out .entry)) (replicate 8192 0) .number ⌝ }
+    ensures { λ _. ⌜ now (out .exit) ≡ committing (now («record» .entry)) event «open» close (now (out .entry)) (replicate 8192 0) .out ⌝ }
+{
+    let mut lent = scratch();
+    let committed = plan::commit(record, event, open, close, out, &mut lent);
+    committed.number
+}

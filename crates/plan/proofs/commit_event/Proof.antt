@@ -1,0 +1,46 @@
+-- `plan::commit_event` meets its contract: `windows` commits, and the record stays kept. Assumes nothing.
+use mathlib.Core.Path.{sym, _∙_}
+use native.Mathlib.Omega.{arith}
+use lib.Seq.{length-take-le}
+use Rattle.plan.specs.Zeroed.{past-part}
+use Rattle.plan.specs.Structs.{kept-number}
+use Rattle.plan.specs.Steps.{commit-asked, kept-committed}
+use borrow.Author.Needs.{needs}
+use Rattle.plan.proofs.commit_event.Statement.{statement}
+use Rattle.plan.proofs.commit_event.Tie as tie
+
+slice-relend-prefix-commit-window : tie.Need-slice-relend-prefix-commit-window
+slice-relend-prefix-commit-window c = search needs
+
+slice-aggregate-commit-window : tie.Need-slice-aggregate-commit-window
+slice-aggregate-commit-window c = sym (length-take-le 1824 (c .before .before .before .before .before .before .args .scratch .now) (omega (arith, c .before .before .before .before .before .before .pre .1)))
+
+arrays-requires : tie.Need-arrays-requires
+arrays-requires c κs = search needs
+
+commit-window-requires : tie.Need-commit-window-requires
+commit-window-requires c κs = commit-asked (c .before .before .before .before .before .before .before .before .before .before .args .r) (c .before .before .before .before .before .before .before .before .before .before .pre .0 .0) (c .before .before .before .before .before .before .before .before .before .before .args .event) (c .before .before .before .before .before .before .before .before .before .before .args .opens) (c .before .before .before .before .before .before .before .before .before .before .args .closes) (c .before .before .before .arrays .ensures) (length-take-le 1824 (c .before .before .before .before .before .before .before .before .before .before .args .scratch .now) (omega (arith, c .before .before .before .before .before .before .before .before .before .before .pre .1))) (c .before .before .before .before .before .before .before .before .before .before .pre .0 .1)
+
+add-t21 : tie.Need-add-t21
+add-t21 c = omega (arith, kept-number (c .before .before .before .before .before .before .before .before .before .before .before .before .before .before .args .r) (c .before .before .before .before .before .before .before .before .before .before .before .before .before .before .pre .0 .0))
+
+same-length : tie.Need-same-length
+same-length c = search needs
+
+returns : tie.Need-returns
+returns c = (
+  kept-committed (c .before .before .before .before .before .before .before .before .before .before .before .before .before .before .args .r) (c .before .before .before .before .before .before .before .before .before .before .before .before .before .before .pre .0 .0) (c .before .before .before .before .before .before .before .before .before .before .before .before .before .before .args .event) (c .before .before .before .before .before .before .before .before .before .before .before .before .before .before .args .opens) (c .before .before .before .before .before .before .before .before .before .before .before .before .before .before .args .closes) (c .before .before .before .before .before .before .before .arrays .ensures) (c .before .before .before .before .before .before .before .before .before .before .before .before .before .before .pre .0 .1) (c .before .before .before .commit-window .ensures .0),
+  past-part 8192 1824 (c .before .before .before .before .before .before .before .before .before .before .before .before .before .before .args .scratch .now) (c .before .before .before .commit-window .last .0) (omega arith) (c .before .before .before .commit-window .ensures .1 ∙ length-take-le 1824 (c .before .before .before .before .before .before .before .before .before .before .before .before .before .before .args .scratch .now) (omega (arith, c .before .before .before .before .before .before .before .before .before .before .before .before .before .before .pre .1))),
+)
+
+pub commit-event-spec : {M : Type 1} → statement M
+commit-event-spec =
+    tie.close
+    (tie.spec
+    slice-relend-prefix-commit-window
+    slice-aggregate-commit-window
+    arrays-requires
+    commit-window-requires
+    add-t21
+    same-length
+    returns)

@@ -1,0 +1,46 @@
+-- `plan::commit_record` meets its contract: the first cause, or the record with the event committed. Assumes nothing.
+use mathlib.Core.Path.{refl}
+use Rattle.plan.specs.Calls.{asking}
+use Rattle.plan.specs.Structs.{stateOf}
+use Rattle.plan.specs.Steps.{commit-refused}
+use Rattle.plan.specs.Meets.{meets-refused, meets-accepted}
+use borrow.Author.Needs.{needs}
+use Rattle.plan.proofs.commit_record.Statement.{statement}
+use Rattle.plan.proofs.commit_record.Tie as tie
+
+cause-requires : tie.Need-cause-requires
+cause-requires c κs = search needs
+
+refusal-requires : tie.Need-refusal-requires
+refusal-requires c κs = search needs
+
+returns : tie.Need-returns
+returns c = meets-refused (c .before .before .before .before .before .args .out .now) (commit-refused (stateOf (c .before .before .before .before .before .args .r)) (asking (c .before .before .before .before .before .args .event) (c .before .before .before .before .before .args .opens) (c .before .before .before .before .before .args .closes)) (c .before .before .cause .ensures) (c .before .if1 .taken)) (c .refusal .ensures) refl
+
+commit-event-requires : tie.Need-commit-event-requires
+commit-event-requires c κs = search needs
+
+hand-out-requires : tie.Need-hand-out-requires
+hand-out-requires c κs = search needs
+
+same-length : tie.Need-same-length
+same-length c = search needs
+
+same-length-2 : tie.Need-same-length-2
+same-length-2 c = search needs
+
+returns-2 : tie.Need-returns-2
+returns-2 c = meets-accepted (c .before .before .before .before .before .before .before .before .before .before .before .before .args .out .now) (c .before .before .before .before .before .before .commit-event .ensures .0 .1) (c .before .before .hand-out .ensures .0) (c .before .before .hand-out .ensures .1) (c .before .before .before .before .before .before .commit-event .ensures .1)
+
+pub commit-record-spec : {M : Type 1} → statement M
+commit-record-spec =
+    tie.close
+    (tie.spec
+    cause-requires
+    refusal-requires
+    returns
+    commit-event-requires
+    hand-out-requires
+    same-length
+    same-length-2
+    returns-2)

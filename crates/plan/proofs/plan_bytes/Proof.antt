@@ -1,0 +1,39 @@
+-- `plan::plan_bytes` meets its contract: a refused reading answers its number, and what was read is planned. Assumes nothing.
+use native.Mathlib.Omega.{arith}
+use Rattle.plan.specs.Meets.{ticket-misread, ticket-read, ticket-meets}
+use borrow.Author.Needs.{needs}
+use Rattle.plan.proofs.plan_bytes.Statement.{statement}
+use Rattle.plan.proofs.plan_bytes.Tie as tie
+
+read-ticket-requires : tie.Need-read-ticket-requires
+read-ticket-requires c κs = search needs
+
+refusal-requires : tie.Need-refusal-requires
+refusal-requires c κs = search needs
+
+returns : tie.Need-returns
+returns c = ticket-misread (c .before .before .before .before .before .before .before .args .ticket .now) (c .before .before .before .read-ticket .ensures) (c .before .if1 .taken) (c .refusal .ensures)
+
+plan-ticket-requires : tie.Need-plan-ticket-requires
+plan-ticket-requires c κs = (ticket-read (c .before .before .before .before .before .before .before .before .before .args .ticket .now) (c .before .before .before .before .before .read-ticket .ensures) (c .before .before .before .if1 .left) (λ i. omega (arith, c .before .before .before .before .before .before .before .before .shared-slice-known .given i)), c .before .before .before .before .before .before .before .before .before .pre)
+
+same-length : tie.Need-same-length
+same-length c = search needs
+
+same-length-2 : tie.Need-same-length-2
+same-length-2 c = search needs
+
+returns-2 : tie.Need-returns-2
+returns-2 c = ticket-meets (c .before .before .before .before .before .before .before .before .before .before .before .before .before .before .args .ticket .now) (c .before .before .before .before .before .before .before .before .before .before .read-ticket .ensures) (c .before .before .before .before .before .before .before .before .if1 .left) (c .before .before .before .before .before .before .before .before .before .before .before .before .before .before .args .out .now) (c .before .before .before .before .plan-ticket .ensures)
+
+pub plan-bytes-spec : {M : Type 1} → statement M
+plan-bytes-spec =
+    tie.close
+    (tie.spec
+    read-ticket-requires
+    refusal-requires
+    returns
+    plan-ticket-requires
+    same-length
+    same-length-2
+    returns-2)

@@ -1,0 +1,64 @@
+-- `plan::plan_ticket` meets its contract: `windows` decides, and the record is handed out. Assumes nothing.
+use mathlib.Core.Path.{refl, sym, _∙_}
+use native.Mathlib.Omega.{arith}
+use borrow.Author.Tests.{not-true, not-false}
+use lib.Seq.{length-take-le}
+use Rattle.plan.specs.Zeroed.{past-part}
+use Rattle.plan.specs.Steps.{plan-asked, planned-none, planned-some, kept-planned}
+use Rattle.plan.specs.Meets.{meets-refused, meets-accepted}
+use borrow.Author.Needs.{needs}
+use Rattle.plan.proofs.plan_ticket.Statement.{statement}
+use Rattle.plan.proofs.plan_ticket.Tie as tie
+
+slice-relend-prefix-plan-windows : tie.Need-slice-relend-prefix-plan-windows
+slice-relend-prefix-plan-windows c = search needs
+
+slice-aggregate-plan-windows : tie.Need-slice-aggregate-plan-windows
+slice-aggregate-plan-windows c = sym (length-take-le 1824 (c .before .before .before .args .scratch .now) (omega (arith, c .before .before .before .pre .1)))
+
+arrays-requires : tie.Need-arrays-requires
+arrays-requires c κs = search needs
+
+plan-windows-requires : tie.Need-plan-windows-requires
+plan-windows-requires c κs = plan-asked (c .before .before .arrays .ensures) (c .before .before .before .before .before .before .pre .0 .1) (length-take-le 1824 (c .before .before .before .before .before .before .args .scratch .now) (omega (arith, c .before .before .before .before .before .before .pre .1))) refl refl
+
+refusal-requires : tie.Need-refusal-requires
+refusal-requires c κs = search needs
+
+same-length : tie.Need-same-length
+same-length c = search needs
+
+returns : tie.Need-returns
+returns c =
+    meets-refused (c .before .before .before .before .before .before .before .before .before .before .before .args .out .now) (planned-none (c .before .before .before .before .before .before .before .arrays .ensures) (c .before .before .before .before .plan-windows .ensures .0) (not-true _ (c .before .if1 .taken))) (c .refusal .ensures)
+    (past-part 8192 1824 (c .before .before .before .before .before .before .before .before .before .before .before .args .scratch .now) (c .before .before .before .before .plan-windows .last .0) (omega arith) (c .before .before .before .before .plan-windows .ensures .1 ∙ length-take-le 1824 (c .before .before .before .before .before .before .before .before .before .before .before .args .scratch .now) (omega (arith, c .before .before .before .before .before .before .before .before .before .before .before .pre .1))))
+
+hand-out-requires : tie.Need-hand-out-requires
+hand-out-requires c κs = (kept-planned (c .before .before .before .before .before .before .before .arrays .ensures) (c .before .before .before .before .plan-windows .ensures .0) (c .before .before .before .before .before .before .before .before .before .before .before .pre .0 .0) (c .before .before .before .before .before .before .before .before .before .before .before .pre .0 .1) refl refl (not-false _ (c .before .if1 .left)), c .before .before .before .before .before .before .before .before .before .before .before .pre .1 .0)
+
+same-length-2 : tie.Need-same-length-2
+same-length-2 c = search needs
+
+same-length-3 : tie.Need-same-length-3
+same-length-3 c = search needs
+
+returns-2 : tie.Need-returns-2
+returns-2 c =
+    meets-accepted (c .before .before .before .before .before .before .before .before .before .before .before .before .before .before .args .out .now) (planned-some (c .before .before .before .before .before .before .before .before .before .before .arrays .ensures) (c .before .before .before .before .before .before .before .plan-windows .ensures .0) (not-false _ (c .before .before .before .before .if1 .left))) (c .before .before .hand-out .ensures .0) (c .before .before .hand-out .ensures .1)
+    (past-part 8192 1824 (c .before .before .before .before .before .before .before .before .before .before .before .before .before .before .args .scratch .now) (c .before .before .before .before .before .before .before .plan-windows .last .0) (omega arith) (c .before .before .before .before .before .before .before .plan-windows .ensures .1 ∙ length-take-le 1824 (c .before .before .before .before .before .before .before .before .before .before .before .before .before .before .args .scratch .now) (omega (arith, c .before .before .before .before .before .before .before .before .before .before .before .before .before .before .pre .1))))
+
+pub plan-ticket-spec : {M : Type 1} → statement M
+plan-ticket-spec =
+    tie.close
+    (tie.spec
+    slice-relend-prefix-plan-windows
+    slice-aggregate-plan-windows
+    arrays-requires
+    plan-windows-requires
+    refusal-requires
+    same-length
+    returns
+    hand-out-requires
+    same-length-2
+    same-length-3
+    returns-2)

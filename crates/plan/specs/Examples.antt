@@ -1,0 +1,199 @@
+-- The examples P1 to P10 of 01 on bytes, as one table: a call, and what it returns and leaves, whatever output and scratch of sufficient length it is lent.
+-- The decisions are rows of `temporal`'s table; here the bytes are read and written. The table of distances in P1 is a row of `temporal`'s.
+use mathlib.Core.Path.{_≡_, refl, ap, _∙_}
+use mathlib.Core.Bool.{true}
+use mathlib.Core.List.{List, [], _∷_, _++_}
+use Prim.Native.Nat.{ℕ, _-_}
+use lib.IntN.{pos, negsuc}
+use lib.ListN.{length}
+use Rattle.temporal.specs.Lists.{All}
+use Rattle.temporal.specs.Ticket.{Ticket, weights, weight, total}
+use Rattle.temporal.specs.Plan.{State, accepted, refused, plan, commit}
+use Rattle.temporal.specs.Examples.{ticket1, plan1, record3, ticket4, plan4, ticket6, ticket7, ticket8, ticket10, p1, p2, p3, p4, p5, p6, p6-refused, p7, p7-refused, p8, p10}
+use Rattle.ticket.specs.Parser.{got, number, little, many, wholly}
+use Rattle.ticket.specs.Format.{readTicket, readOwner, readRule, readState, readWindow}
+use Rattle.ticket.specs.Writer.{bytes, each, entries, writeRule, writeTicket, writeWindow, writeState}
+use Rattle.ticket.specs.Writing.{over}
+use Rattle.plan.specs.Calls.{Outcome, room, cleared, sentBack, answered, afterReading, asking, planning, planning-read, committing, committing-read}
+
+-- ---- how an example is written
+
+pub data Call : Type 0 where
+  plans : (ticket : List ℕ) → Call
+  commits : (given : List ℕ) (event opens closes : ℕ) → Call
+
+-- a refusal's number, or the bytes written and the total returned
+pub data Reply : Type 0 where
+  sends-back : ℕ → Reply
+  writes : (written : List ℕ) (total : ℕ) → Reply
+
+abbrev pub outcome : Call → List ℕ → List ℕ → Outcome
+outcome (plans ticket) out scratch = planning ticket out scratch
+outcome (commits given event opens closes) out scratch = committing given event opens closes out scratch
+
+abbrev pub expected : Reply → List ℕ → List ℕ → Outcome
+expected (sends-back r) out scratch = sentBack r out scratch
+expected (writes written t) out scratch = record { number = 0; length = length written; total = t; out = over written out; scratch = cleared scratch }
+
+-- one row: the number of the example in 01, the call, what it answers
+pub record Example : Type 0 where
+  pub paper : ℕ
+  pub call : Call
+  pub reply : Reply
+
+abbrev pub example : ℕ → Call → Reply → Example
+example n c r = record { paper = n; call = c; reply = r }
+
+abbrev pub Holds : Example → Type 0
+Holds e = (out scratch : List ℕ) → room out scratch ≡ true → outcome (e .call) out scratch ≡ expected (e .reply) out scratch
+
+-- ---- the bytes
+
+-- a number below 256 in two bytes and in four
+abbrev pub two : ℕ → List ℕ
+two n = n ∷ 0 ∷ []
+
+abbrev pub four : ℕ → List ℕ
+four n = n ∷ 0 ∷ 0 ∷ 0 ∷ []
+
+-- "i to j: c", and "i to j: -c"
+abbrev pub rule : ℕ → ℕ → ℕ → List ℕ
+rule i j c = i ∷ j ∷ four c
+
+abbrev pub minus : ℕ → ℕ → ℕ → List ℕ
+minus i j c = i ∷ j ∷ (256 - c) ∷ 255 ∷ 255 ∷ 255 ∷ []
+
+-- a flag with its window
+abbrev pub window : ℕ → ℕ → ℕ → List ℕ
+window flag opens closes = flag ∷ (four opens ++ four closes)
+
+abbrev pub bytes1 : List ℕ
+bytes1 =
+    four 20 ++ (two 2 ++ (0 ∷ 2 ∷ (two 6
+    ++ (rule 0 1 15 ++ (minus 1 0 5 ++ (rule 0 2 20 ++ (minus 2 0 8 ++ (rule 1 2 4 ++ rule 2 1 2))))))))
+
+abbrev pub record1 : List ℕ
+record1 = bytes1 ++ (two 2 ++ (window 0 5 10 ++ (window 0 8 9 ++ two 0)))
+
+abbrev pub bytes4 : List ℕ
+bytes4 = four 5 ++ (two 3 ++ (3 ∷ 3 ∷ 3 ∷ (two 2 ++ (rule 1 2 0 ++ rule 2 3 0))))
+
+abbrev pub record4 : List ℕ
+record4 = bytes4 ++ (two 3 ++ (window 0 0 5 ++ (window 0 0 0 ++ (window 0 0 0 ++ two 0))))
+
+abbrev pub bytes6 : ℕ → List ℕ
+bytes6 c = four 10 ++ (two 2 ++ (3 ∷ 3 ∷ (two 2 ++ (minus 1 2 1 ++ rule 2 1 c))))
+
+abbrev pub bytes7 : ℕ → List ℕ
+bytes7 c = four 10 ++ (two 1 ++ (3 ∷ (two 1 ++ minus 1 0 c)))
+
+abbrev pub bytes8 : List ℕ
+bytes8 = four 0 ++ (two 0 ++ two 0)
+
+abbrev pub bytes10 : List ℕ
+bytes10 = four 5 ++ (two 2 ++ (3 ∷ 3 ∷ two 0))
+
+-- ---- the table
+
+abbrev pub examples : List Example
+examples =
+    example 1 (plans bytes1) (writes record1 6)
+    ∷ example 2 (commits record1 1 10 10) (writes (bytes1 ++ (two 2 ++ (window 1 10 10 ++ (window 0 8 14 ++ two 1)))) 6)
+    ∷ example 3 (commits (bytes1 ++ (two 2 ++ (window 0 15 15 ++ (window 0 13 19 ++ two 0)))) 2 13 13)
+    (writes (bytes1 ++ (two 2 ++ (window 0 9 15 ++ (window 1 13 13 ++ two 1)))) 6)
+    ∷ example 4 (plans bytes4) (writes record4 5)
+    ∷ example 5 (commits record4 1 2 2) (writes (bytes4 ++ (two 3 ++ (window 1 2 2 ++ (window 0 0 2 ++ (window 0 0 0 ++ two 1))))) 2)
+    ∷ example 6 (plans (bytes6 1)) (writes (bytes6 1 ++ (two 2 ++ (window 0 1 1 ++ (window 0 0 0 ++ two 0)))) 0)
+    ∷ example 6 (plans (bytes6 0)) (sends-back 9)
+    ∷ example 7 (plans (bytes7 10)) (writes (bytes7 10 ++ (two 1 ++ (window 0 10 10 ++ two 0))) 0)
+    ∷ example 7 (plans (bytes7 11)) (sends-back 9)
+    ∷ example 8 (plans bytes8) (writes (bytes8 ++ (two 0 ++ two 0)) 0)
+    ∷ example 9 (plans []) (sends-back 1)
+    ∷ example 10 (plans bytes10) (writes (bytes10 ++ (two 2 ++ (window 0 0 5 ++ (window 0 0 5 ++ two 0)))) 10)
+    ∷ []
+
+-- ---- a row, from what is read, decided and written
+
+answered-as : (s : State) (written : List ℕ) (t : ℕ) (out scratch : List ℕ) → writeState s ≡ written → total (s .ticket) (s .windows) ≡ t
+    → answered out scratch (accepted s) ≡ expected (writes written t) out scratch
+answered-as s written t out scratch w q = λ i. record { number = 0; length = length (w i); total = q i; out = over (w i) out; scratch = cleared scratch }
+
+module _ (ticket : List ℕ) {k : Ticket} (read : wholly readTicket ticket ≡ got k []) (out scratch : List ℕ) (e : room out scratch ≡ true) where
+  plans-writes : {s : State} (written : List ℕ) (t : ℕ) → plan k ≡ accepted s → writeState s ≡ written → total (s .ticket) (s .windows) ≡ t
+      → planning ticket out scratch ≡ expected (writes written t) out scratch
+  plans-writes {s} written t p w q =
+      planning-read ticket out scratch e ∙ ap (afterReading out scratch plan) read ∙ ap (answered out scratch) p ∙ answered-as s written t out scratch w q
+
+  plans-refused : {r : ℕ} → plan k ≡ refused r → planning ticket out scratch ≡ expected (sends-back r) out scratch
+  plans-refused p = planning-read ticket out scratch e ∙ ap (afterReading out scratch plan) read ∙ ap (answered out scratch) p
+
+module _ (given : List ℕ) {s : State} (read : wholly readState given ≡ got s []) (event opens closes : ℕ) (out scratch : List ℕ) (e : room out scratch ≡ true) where
+  commits-writes : {next : State} (written : List ℕ) (t : ℕ) → commit s (asking event opens closes) ≡ accepted next → writeState next ≡ written → total (next .ticket) (next .windows) ≡ t
+      → committing given event opens closes out scratch ≡ expected (writes written t) out scratch
+  commits-writes {next} written t p w q =
+      committing-read given event opens closes out scratch e
+      ∙ ap (afterReading out scratch (λ (x : State). commit x (asking event opens closes))) read
+      ∙ ap (answered out scratch) p
+      ∙ answered-as next written t out scratch w q
+
+-- ---- every row of the table holds
+
+read1 : wholly readTicket bytes1 ≡ got ticket1 []
+unfolding readTicket readOwner readRule little many
+read1 = refl
+
+read4 : wholly readTicket bytes4 ≡ got ticket4 []
+unfolding readTicket readOwner readRule little many
+read4 = refl
+
+read-record1 : wholly readState record1 ≡ got plan1 []
+unfolding readState readWindow readTicket readOwner readRule little many
+read-record1 = refl
+
+read-record3 : wholly readState (bytes1 ++ (two 2 ++ (window 0 15 15 ++ (window 0 13 19 ++ two 0)))) ≡ got record3 []
+unfolding readState readWindow readTicket readOwner readRule little many
+read-record3 = refl
+
+read-record4 : wholly readState record4 ≡ got plan4 []
+unfolding readState readWindow readTicket readOwner readRule little many
+read-record4 = refl
+
+pub examples-hold : All Holds examples
+unfolding readTicket readOwner readRule little many number writeState writeTicket writeRule writeWindow entries bytes each weight weights
+examples-hold = (
+  λ out scratch e. plans-writes bytes1 read1 out scratch e record1 6 p1 refl refl,
+  (
+    λ out scratch e. commits-writes record1 read-record1 1 10 10 out scratch e _ 6 p2 refl refl,
+    (
+      λ out scratch e. commits-writes _ read-record3 2 13 13 out scratch e _ 6 p3 refl refl,
+      (
+        λ out scratch e. plans-writes bytes4 read4 out scratch e record4 5 p4 refl refl,
+        (
+          λ out scratch e. commits-writes record4 read-record4 1 2 2 out scratch e _ 2 p5 refl refl,
+          (
+            λ out scratch e. plans-writes (bytes6 1) {k = ticket6 (pos 1)} refl out scratch e _ 0 p6 refl refl,
+            (
+              λ out scratch e. plans-refused (bytes6 0) {k = ticket6 (pos 0)} refl out scratch e p6-refused,
+              (
+                λ out scratch e. plans-writes (bytes7 10) {k = ticket7 (negsuc 9)} refl out scratch e _ 0 p7 refl refl,
+                (
+                  λ out scratch e. plans-refused (bytes7 11) {k = ticket7 (negsuc 10)} refl out scratch e p7-refused,
+                  (
+                    λ out scratch e. plans-writes bytes8 {k = ticket8} refl out scratch e _ 0 p8 refl refl,
+                    (
+                      λ out scratch e. planning-read [] out scratch e,
+                      (
+                        λ out scratch e. plans-writes bytes10 {k = ticket10} refl out scratch e _ 10 p10 refl refl,
+                        tt,
+                      ),
+                    ),
+                  ),
+                ),
+              ),
+            ),
+          ),
+        ),
+      ),
+    ),
+  ),
+)

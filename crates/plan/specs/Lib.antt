@@ -1,0 +1,9 @@
+pub mod Zeroed
+pub mod Calls
+pub mod Run
+pub mod RunHolds
+pub mod Returned
+pub mod Structs
+pub mod Steps
+pub mod Meets
+pub mod Examples

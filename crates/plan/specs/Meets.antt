@@ -1,0 +1,157 @@
+-- What the code's inner functions leave, as far as it is settled before the scratch is cleared: the answer, the output, and the scratch past its first 8,192 numbers.
+-- The laws follow the code: a refusal, an accepted call, a reading, and the two doors.
+use mathlib.Core.Path.{_≡_, refl, sym, ap, subst, _∙_}
+use mathlib.Core.Bool.{Bool, true, false, cond, _&&_}
+use mathlib.Core.List.{List, []}
+use Prim.Native.Nat.{ℕ, _≤_, _<_}
+use native.Mathlib.Omega.{arith}
+use borrow.Author.Tests.{le-leb, lt-leb}
+use lib.Dec.{leb}
+use lib.ListN.{length}
+use Rattle.temporal.specs.Ticket as temporal
+use Rattle.temporal.specs.Ticket.{total}
+use Rattle.temporal.specs.Plan.{State, Answer as Decision, accepted, refused, plan}
+use Rattle.temporal.specs.Run.{Valid, Readable}
+use Rattle.ticket.specs.Parser.{Cause, Out, got, number, Parser, wholly}
+use Rattle.ticket.specs.Parser as parser
+use Rattle.ticket.specs.Format.{readTicket, readState}
+use Rattle.ticket.specs.Writer.{writeState}
+use Rattle.ticket.specs.Writing.{over}
+use Rattle.ticket.specs.Stored.{stored, answer, storedState, planned, wholeTicket, wholeRecord}
+use Rattle.ticket.specs.RoundTrip.{Bytes, written-read, written-read-state}
+use Rattle.ticket.specs.Answers.{was-refused, was-got}
+use Rattle.ticket.specs.declared.ReadTicket.{ReadTicket}
+use Rattle.ticket.specs.declared.ReadRecord.{ReadRecord}
+use Rattle.plan.specs.Zeroed.{zeroed, past, zeroed-rest}
+use Rattle.plan.specs.Calls.{Outcome, room, cleared, tooShort, sentBack, answered, afterReading}
+use Rattle.plan.specs.Structs.{ticketOf, stateOf, ticket-of, state-of, Kept, kept-read}
+use Rattle.plan.specs.Returned.{returned}
+use Rattle.plan.specs.declared.Answer.{Answer}
+
+-- a is what the outcome returns, out its output; the scratch is as `before` past its first 8,192 numbers
+pub record Meets (o : Outcome) (before : List ℕ) (a : Answer) (out scratch : List ℕ) : Type 0 where
+  pub answer-is : a ≡ returned o
+  pub output-is : out ≡ o .out
+  pub rest-is : past 8192 scratch ≡ past 8192 before
+
+-- ---- decisions
+
+module _ {d : Decision} (out : List ℕ) {scratch : List ℕ} where
+  pub meets-refused : {r : ℕ} {a : Answer} {scratch′ : List ℕ} → d ≡ refused r → a ≡ record { number = r; length = 0; total = 0 } → past 8192 scratch′ ≡ past 8192 scratch
+      → Meets (answered out scratch d) scratch a out scratch′
+  meets-refused {r} e q h = record {
+    answer-is = q ∙ ap (λ x. returned (answered out scratch x)) (sym e);
+    output-is = ap (λ x. answered out scratch x .out) (sym e);
+    rest-is = h;
+  }
+
+  pub meets-accepted : {s : State} {a : Answer} {out′ scratch′ : List ℕ} → d ≡ accepted s
+      → a ≡ record { number = 0; length = length (writeState s); total = total (s .ticket) (s .windows) } → out′ ≡ over (writeState s) out
+      → past 8192 scratch′ ≡ past 8192 scratch
+      → Meets (answered out scratch d) scratch a out′ scratch′
+  meets-accepted e q o h = record {
+    answer-is = q ∙ ap (λ x. returned (answered out scratch x)) (sym e);
+    output-is = o ∙ ap (λ x. answered out scratch x .out) (sym e);
+    rest-is = h;
+  }
+
+-- ---- readings
+
+-- a refused reading: p reads, f answers with the number num
+module _ {A X : Type 0} (num : X → ℕ) (f : Out A → X) (yes : (a : A) (t : List ℕ) → num (f (got a t)) ≡ 0) (no : (k : Cause) → num (f (parser.refused k)) ≡ number k) where
+  meets-misread : (decide : A → Decision) {out scratch : List ℕ} (o : Out A) (x : X) {a : Answer} → x ≡ f o → (num x ≡ 0 → ⊥)
+      → a ≡ record { number = num x; length = 0; total = 0 } → Meets (afterReading out scratch decide o) scratch a out scratch
+  meets-misread decide {out} {scratch} o x e n q =
+      let k = was-refused num f yes no o x e n in
+      record {
+        answer-is = q ∙ ap (λ m. record { number = m; length = 0; total = 0 }) (k .2) ∙ ap (λ y. returned (afterReading out scratch decide y)) (sym (k .1));
+        output-is = ap (λ y. afterReading out scratch decide y .out) (sym (k .1));
+        rest-is = refl;
+      }
+
+module _ (ticket : List ℕ) {x : ReadTicket} (e : x ≡ wholeTicket ticket) where
+  pub ticket-misread : {out scratch : List ℕ} {a : Answer} → (x .number ≡ 0 → ⊥) → a ≡ record { number = x .number; length = 0; total = 0 }
+      → Meets (afterReading out scratch plan (wholly readTicket ticket)) scratch a out scratch
+  ticket-misread n q = meets-misread (λ (y : ReadTicket). y .number) (answer 0) (λ k t. refl) (λ k. refl) plan (wholly readTicket ticket) x e n q
+
+  module _ (z : x .number ≡ 0) where
+    read : (k : temporal.Ticket) × (rest : List ℕ) × (wholly readTicket ticket ≡ got k rest)
+    read = was-got (λ (y : ReadTicket). y .number) (answer 0) (λ k t. refl) (λ k. refl) (wholly readTicket ticket) x e z
+
+    struct : x .ticket ≡ stored (read .0)
+    struct = ap (λ (y : ReadTicket). y .ticket) (e ∙ ap (answer 0) (read .2))
+
+    holds : ticketOf (x .ticket) ≡ read .0
+    holds = ap ticketOf struct ∙ ticket-of (read .0)
+
+    pub ticket-read : Bytes ticket → (x .ticket ≡ stored (ticketOf (x .ticket))) × Valid (ticketOf (x .ticket))
+    ticket-read b = (struct ∙ ap stored (sym holds), subst Valid (sym holds) (written-read ticket (read .0) (read .1) b (read .2) .1))
+
+    pub ticket-meets : (out : List ℕ) {scratch : List ℕ} {a : Answer} {out′ scratch′ : List ℕ} → Meets (answered out scratch (plan (ticketOf (x .ticket)))) scratch a out′ scratch′
+        → Meets (afterReading out scratch plan (wholly readTicket ticket)) scratch a out′ scratch′
+    ticket-meets out {scratch} {a} {out′} {scratch′} m =
+        subst (λ o. Meets o scratch a out′ scratch′)
+        (ap (λ k. answered out scratch (plan k)) holds ∙ ap (afterReading out scratch plan) (sym (read .2))) m
+
+module _ (bytes : List ℕ) {x : ReadRecord} (e : x ≡ wholeRecord bytes) (decide : State → Decision) where
+  pub record-misread : {out scratch : List ℕ} {a : Answer} → (x .number ≡ 0 → ⊥) → a ≡ record { number = x .number; length = 0; total = 0 }
+      → Meets (afterReading out scratch decide (wholly readState bytes)) scratch a out scratch
+  record-misread n q = meets-misread (λ (y : ReadRecord). y .number) (planned 0) (λ s t. refl) (λ k. refl) decide (wholly readState bytes) x e n q
+
+  module _ (z : x .number ≡ 0) (b : Bytes bytes) where
+    read-state : (s : State) × (rest : List ℕ) × (wholly readState bytes ≡ got s rest)
+    read-state = was-got (λ (y : ReadRecord). y .number) (planned 0) (λ s t. refl) (λ k. refl) (wholly readState bytes) x e z
+
+    struct-state : x .plan ≡ storedState (read-state .0)
+    struct-state = ap (λ (y : ReadRecord). y .plan) (e ∙ ap (planned 0) (read-state .2))
+
+    readable : Readable (read-state .0)
+    readable = written-read-state bytes (read-state .0) (read-state .1) b (read-state .2) .1
+
+    pub record-read : Kept (x .plan)
+    record-read = subst Kept (sym struct-state) (kept-read (read-state .0) readable)
+
+    pub record-meets : (out : List ℕ) {scratch : List ℕ} {a : Answer} {out′ scratch′ : List ℕ} → Meets (answered out scratch (decide (stateOf (x .plan)))) scratch a out′ scratch′
+        → Meets (afterReading out scratch decide (wholly readState bytes)) scratch a out′ scratch′
+    record-meets out {scratch} {a} {out′} {scratch′} m =
+        subst (λ o. Meets o scratch a out′ scratch′)
+        (ap (λ s. answered out scratch (decide s)) (ap stateOf struct-state ∙ state-of (read-state .0) readable) ∙ ap (afterReading out scratch decide) (sym (read-state .2))) m
+
+-- ---- the doors
+
+pub no-room-out : (out scratch : List ℕ) → length out < 1948 → room out scratch ≡ false
+unfolding room
+no-room-out out scratch l = rw (lt-leb 1948 (length out) l)
+
+pub no-room-scratch : (out scratch : List ℕ) → 1948 ≤ length out → length scratch < 8192 → room out scratch ≡ false
+unfolding room
+no-room-scratch out scratch l m = rw (le-leb 1948 (length out) l, lt-leb 8192 (length scratch) m)
+
+pub enough-room : (out scratch : List ℕ) → 1948 ≤ length out → 8192 ≤ length scratch → room out scratch ≡ true
+unfolding room
+enough-room out scratch l m = rw (le-leb 1948 (length out) l, le-leb 8192 (length scratch) m)
+
+-- all that a call answers and leaves
+abbrev pub Whole : Outcome → Answer → List ℕ → List ℕ → Type 0
+Whole o a out scratch = (a ≡ returned o) × ((out ≡ o .out) × (scratch ≡ o .scratch))
+
+pub whole-short : (out scratch : List ℕ) {whole : Outcome} {a : Answer} → whole ≡ tooShort out scratch → a ≡ record { number = 10; length = 0; total = 0 } → Whole whole a out scratch
+whole-short out scratch e q = (q ∙ ap returned (sym e), (ap (λ (o : Outcome). o .out) (sym e), ap (λ (o : Outcome). o .scratch) (sym e)))
+
+clears : (out scratch : List ℕ) (d : Decision) → answered out scratch d .scratch ≡ cleared scratch
+clears out scratch (Decision.refused r) = refl
+clears out scratch (Decision.accepted s) = refl
+
+reading-clears : {A : Type 0} (out scratch : List ℕ) (decide : A → Decision) (o : Out A) → afterReading out scratch decide o .scratch ≡ cleared scratch
+reading-clears out scratch decide (Out.got x rest) = clears out scratch (decide x)
+reading-clears out scratch decide (Out.refused k) = refl
+
+pub whole-read : {A : Type 0} (out scratch : List ℕ) (decide : A → Decision) (o : Out A) {whole : Outcome} {a : Answer} {out′ scratch′ scratch″ : List ℕ}
+    → whole ≡ afterReading out scratch decide o → Meets (afterReading out scratch decide o) scratch a out′ scratch′ → scratch″ ≡ zeroed 8192 scratch′ → Whole whole a out′ scratch″
+whole-read out scratch decide o {scratch′ = scratch′} e m c = (
+  m .answer-is ∙ ap returned (sym e),
+  (
+    m .output-is ∙ ap (λ (x : Outcome). x .out) (sym e),
+    c ∙ zeroed-rest 8192 scratch′ scratch (m .rest-is) ∙ sym (reading-clears out scratch decide o) ∙ ap (λ (x : Outcome). x .scratch) (sym e),
+  ),
+)

@@ -1,0 +1,223 @@
+-- What the structs of `ticket` hold, as values of `temporal`: `windows` says it of arrays, and the struct of a value just read says it of all that it holds.
+-- A record that the code hands on is Kept: it is the struct of the readable state that stands in it.
+use mathlib.Core.Path.{_≡_, refl, sym, ap, subst, _∙_}
+use mathlib.Core.Bool.{Bool, true, false}
+use mathlib.Core.List.{List, [], _∷_, map, _++_}
+use Prim.Native.Nat.{ℕ, zero, suc, _+_, _-_, _≤_, _<_}
+use native.Mathlib.Omega.{arith}
+use lib.Dec.{ltb}
+use lib.IntN.{pos}
+use mathlib.Core.Logic.{_⊎_, inl, inr}
+use lib.ListN.{length, getD, set, replicate, length-append, length-replicate, length-map, List·getD-append, length-set}
+use lib.Seq.{ext-getD, getD-append-add, getD-set-other}
+use Rattle.temporal.specs.Lists.{All, below-or-not, by-points, getD-past}
+use Rattle.temporal.specs.Ticket as temporal
+use Rattle.temporal.specs.Ticket.{Rule, Window, events, origin}
+use Rattle.temporal.specs.Ends.{Lies}
+use Rattle.temporal.specs.Plan.{State, flagged}
+use Rattle.temporal.specs.Run.{Valid, Readable}
+use Rattle.network.specs.Stored.{at}
+use Rattle.ticket.specs.Parser.{got}
+use Rattle.ticket.specs.RoundTrip.{flags-small}
+use Rattle.ticket.specs.Agree.{field-at, readable-written}
+use Rattle.ticket.specs.Writing.{over, told, left, writingRecord, recordWritten, recordOutput}
+use Rattle.ticket.specs.Stored.{pad, stored, storedState}
+use Rattle.ticket.specs.Writer.{flagByte, writeState}
+use Rattle.windows.specs.Arrays.{ticketIn, windowList, flagList, stateIn, ruleIn, noRule, ticket-in, window-list, flag-list, window-at, flag-at, length-window-list, in-horizon, in-events, Lie, Within}
+use Rattle.ticket.specs.declared.Ticket.{Ticket}
+use Rattle.ticket.specs.declared.Record.{Record}
+use Rattle.windows.specs.declared.Arrays.{Arrays}
+
+-- ---- what the structs hold
+
+abbrev pub arraysOf : Ticket → Arrays
+arraysOf t =
+    record {
+      horizon = t .horizon;
+      events = t .events;
+      owners = t .owners;
+      rules = t .rules;
+      from = t .from;
+      to = t .to;
+      bound = t .bound;
+    }
+
+abbrev pub ticketOf : Ticket → temporal.Ticket
+ticketOf t = ticketIn (arraysOf t)
+
+abbrev pub stateOf : Record → State
+stateOf r = stateIn (arraysOf (r .ticket)) (r .flags) (r .opens) (r .closes) (r .number)
+
+-- ---- an array of 40 numbers, 0 past the first n
+
+pub record Past (n : ℕ) (xs : List ℕ) : Type 0 where
+  pub long : length xs ≡ 40
+  pub zero-past : (i : ℕ) → n ≤ i → at xs i ≡ 0
+
+zeros-at : (m i : ℕ) → at (replicate m 0) i ≡ 0
+zeros-at zero i = refl
+zeros-at (suc m) zero = refl
+zeros-at (suc m) (suc i) = zeros-at m i
+
+pub zeros-past : (n : ℕ) → Past n (replicate 40 0)
+zeros-past n = record { long = refl; zero-past = λ i l. zeros-at 40 i }
+
+pub within-past : {n : ℕ} {xs ys : List ℕ} → Past n xs → Within n xs ys → Past n ys
+within-past p w = record { long = w .long ∙ p .long; zero-past = λ i l. w .past i l ∙ p .zero-past i l }
+
+pub set-past : {n : ℕ} {xs : List ℕ} (i x : ℕ) → i < n → Past n xs → Past n (set xs i x)
+set-past {n} {xs} i x l p = record {
+  long = simp length-set (p .long);
+  zero-past = λ j h. getD-set-other xs i j x 0 (λ q. omega arith) ∙ p .zero-past j h;
+}
+
+past-point : {n : ℕ} {xs : List ℕ} → Past n xs → (q : ℕ) → n < q → at (0 ∷ xs) q ≡ 0
+past-point p zero l = refl
+past-point p (suc j) l = p .zero-past j (omega arith)
+
+module _ {A : Type 0} (f : A → ℕ) (d : A) (z : f d ≡ 0) (xs : List A) (few : length xs ≤ 40) where
+  pad-at : (i : ℕ) → i < length xs → at (pad 0 40 (map f xs)) i ≡ f (getD xs i d)
+  pad-at i l = rw z at (field-at f d 40 xs i l)
+
+  pub pad-past : Past (length xs) (pad 0 40 (map f xs))
+  unfolding pad
+  pad-past = record {
+    long = simp (length-append, length-replicate, length-map) (omega arith);
+    zero-past = λ i l.
+        ap (λ j. at (map f xs ++ replicate (40 - length (map f xs)) 0) j) (omega (arith, length-map xs f))
+        ∙ getD-append-add (map f xs) (replicate (40 - length (map f xs)) 0) (i - length (map f xs)) 0
+        ∙ zeros-at (40 - length (map f xs)) (i - length (map f xs));
+  }
+
+  -- an array with the numbers of a list, and zeros after them
+  pub past-pad : (ys : List ℕ) → Past (length xs) ys → ((i : ℕ) → i < length xs → at ys i ≡ f (getD xs i d)) → ys ≡ pad 0 40 (map f xs)
+  past-pad ys p h =
+      ext-getD 0 ys (pad 0 40 (map f xs)) (p .long ∙ sym (pad-past .long)) (λ i l. by i (below-or-not i (length xs)))
+    where
+      by : (i : ℕ) → (i < length xs) ⊎ (length xs ≤ i) → at ys i ≡ at (pad 0 40 (map f xs)) i
+      by i (inl l) = h i l ∙ sym (pad-at i l)
+      by i (inr l) = p .zero-past i l ∙ sym (pad-past .zero-past i l)
+
+-- ---- a value just read
+
+pub ticket-of : (k : temporal.Ticket) → ticketOf (stored k) ≡ k
+ticket-of k = ticket-in k (arraysOf (stored k)) refl refl refl
+    (λ i l. owner-at i l)
+    (λ j l. λ t. record {
+      from = field-at (λ (r : Rule). r .from) noRule 256 (k .rules) j l t;
+      to = field-at (λ (r : Rule). r .to) noRule 256 (k .rules) j l t;
+      bound = field-at (λ (r : Rule). r .bound) noRule 256 (k .rules) j l t;
+    })
+  where
+    owner-at : (i : ℕ) → i < events k → at (pad 0 40 (k .owners)) i ≡ getD (k .owners) i 0
+    owner-at i l = unfold pad in List·getD-append (k .owners) (replicate (40 - length (k .owners)) 0) 0 i l
+
+module _ (s : State) (ok : Readable s) where
+  few : length (s .windows) ≤ 40
+  few = omega (arith, ok .windows-count, ok .valid .events-limit)
+
+  pub state-of : stateOf (storedState s) ≡ s
+  state-of =
+      let ws = window-list (events (s .ticket)) (storedState s .opens) (storedState s .closes) (s .windows) (ok .windows-count) (λ i l.
+      let li : i < length (s .windows) = omega (arith, ok .windows-count) in
+      (field-at (λ (w : Window). w .opens) origin 40 (s .windows) i li, field-at (λ (w : Window). w .closes) origin 40 (s .windows) i li)) in
+      let fs = flag-list (events (s .ticket)) (storedState s .flags) (s .flags) (ok .flags-count) (λ i l.
+      let li : i < length (s .flags) = omega (arith, ok .flags-count) in
+      ap (λ x. ltb 0 x) (field-at flagByte false 40 (s .flags) i li) ∙ flag-test (getD (s .flags) i false)) in
+      λ t. record { ticket = ticket-of (s .ticket) t; windows = ws t; flags = fs t; count = s .count }
+    where
+      flag-test : (b : Bool) → ltb 0 (flagByte b) ≡ b
+      flag-test true = refl
+      flag-test false = refl
+
+-- ---- a record that the code hands on: the struct of a readable state
+
+pub record Kept (r : Record) : Type 0 where
+  pub ticket-is : r .ticket ≡ stored (ticketOf (r .ticket))
+  pub flags-past : Past (r .ticket .events) (r .flags)
+  pub opens-past : Past (r .ticket .events) (r .opens)
+  pub closes-past : Past (r .ticket .events) (r .closes)
+  pub bits : (i : ℕ) → at (r .flags) i ≤ 1
+  pub readable : Readable (stateOf r)
+
+pub kept-read : (s : State) → Readable s → Kept (storedState s)
+kept-read s ok = record {
+  ticket-is = ap stored (sym (ticket-of (s .ticket)));
+  flags-past = subst (λ n. Past n (storedState s .flags)) (ok .flags-count) (pad-past flagByte false refl (s .flags) (omega (arith, ok .flags-count, ok .valid .events-limit)));
+  opens-past = subst (λ n. Past n (storedState s .opens)) (ok .windows-count) (pad-past (λ (w : Window). w .opens) origin refl (s .windows) (few s ok));
+  closes-past = subst (λ n. Past n (storedState s .closes)) (ok .windows-count) (pad-past (λ (w : Window). w .closes) origin refl (s .windows) (few s ok));
+  bits = λ i. by i (below-or-not i (length (s .flags)));
+  readable = subst Readable (sym (state-of s ok)) ok;
+}
+  where
+    flag-byte : (b : Bool) → flagByte b ≤ 1
+    flag-byte true = omega arith
+    flag-byte false = omega arith
+
+    by : (i : ℕ) → (i < length (s .flags)) ⊎ (length (s .flags) ≤ i) → at (storedState s .flags) i ≤ 1
+    by i (inl l) = omega (arith, field-at flagByte false 40 (s .flags) i l, flag-byte (getD (s .flags) i false))
+    by i (inr l) = omega (arith, pad-past flagByte false refl (s .flags) (omega (arith, ok .flags-count, ok .valid .events-limit)) .zero-past i l)
+
+module _ (r : Record) (ok : Kept r) where
+  counted : events (ticketOf (r .ticket)) ≡ r .ticket .events
+  counted = in-events (arraysOf (r .ticket))
+
+  pub kept-few : r .ticket .events ≤ 40
+  kept-few = omega (arith, counted, ok .readable .valid .events-limit)
+
+  -- the flag and the window of a point, in the arrays
+  pub flag-of : (p : ℕ) → flagged (stateOf r .flags) p ≡ ltb 0 (at (0 ∷ r .flags) p)
+  flag-of = by-points (λ p. flagged (stateOf r .flags) p ≡ ltb 0 (at (0 ∷ r .flags) p)) (r .ticket .events) refl
+      (λ i l. flag-at (r .ticket .events) (r .flags) i l)
+      (λ q l. getD-past (false ∷ stateOf r .flags) false q (omega (arith, ok .readable .flags-count, counted)) ∙ ap (λ x. ltb 0 x) (sym (past-point (ok .flags-past) q l)))
+
+  pub open-of : (p : ℕ) → temporal.at (stateOf r .windows) p .opens ≡ at (0 ∷ r .opens) p
+  open-of = by-points (λ p. temporal.at (stateOf r .windows) p .opens ≡ at (0 ∷ r .opens) p) (r .ticket .events) refl
+      (λ i l. ap (λ (w : Window). w .opens) (window-at (r .ticket .events) (r .opens) (r .closes) i l))
+      (λ q l. ap (λ (w : Window). w .opens) (getD-past (origin ∷ stateOf r .windows) origin q (omega (arith, ok .readable .windows-count, counted))) ∙ sym (past-point (ok .opens-past) q l))
+
+  pub close-of : (p : ℕ) → temporal.at (stateOf r .windows) p .closes ≡ at (0 ∷ r .closes) p
+  close-of = by-points (λ p. temporal.at (stateOf r .windows) p .closes ≡ at (0 ∷ r .closes) p) (r .ticket .events) refl
+      (λ i l. ap (λ (w : Window). w .closes) (window-at (r .ticket .events) (r .opens) (r .closes) i l))
+      (λ q l. ap (λ (w : Window). w .closes) (getD-past (origin ∷ stateOf r .windows) origin q (omega (arith, ok .readable .windows-count, counted))) ∙ sym (past-point (ok .closes-past) q l))
+
+  pub kept-number : r .number ≤ 40
+  kept-number = omega (arith, ok .readable .number, flags-small (stateOf r .flags), ok .readable .flags-count, ok .readable .valid .events-limit)
+
+  pub kept-lies : Lie (arraysOf (r .ticket)) (r .opens) (r .closes)
+  kept-lies = subst (λ h. All (Lies h) (stateOf r .windows)) (in-horizon (arraysOf (r .ticket))) (ok .readable .windows-lie)
+
+  pub kept-stored : r ≡ storedState (stateOf r)
+  kept-stored = λ t. record {
+    ticket = ok .ticket-is t;
+    flags = past-pad flagByte false refl (stateOf r .flags) (omega (arith, kept-few, counted, ok .readable .flags-count)) (r .flags)
+        (subst (λ m. Past m (r .flags)) (sym (ok .readable .flags-count ∙ counted)) (ok .flags-past))
+        (λ i l. let li : i < r .ticket .events = omega (arith, counted, ok .readable .flags-count) in
+        flag-back (at (r .flags) i) (ok .bits i) ∙ ap flagByte (sym (flag-at (r .ticket .events) (r .flags) i li))) t;
+    opens = past-pad (λ (w : Window). w .opens) origin refl (stateOf r .windows) (omega (arith, kept-few, counted, ok .readable .windows-count)) (r .opens)
+        (subst (λ m. Past m (r .opens)) (sym (ok .readable .windows-count ∙ counted)) (ok .opens-past))
+        (λ i l. let li : i < r .ticket .events = omega (arith, counted, ok .readable .windows-count) in
+        sym (ap (λ (w : Window). w .opens) (window-at (r .ticket .events) (r .opens) (r .closes) i li))) t;
+    closes = past-pad (λ (w : Window). w .closes) origin refl (stateOf r .windows) (omega (arith, kept-few, counted, ok .readable .windows-count)) (r .closes)
+        (subst (λ m. Past m (r .closes)) (sym (ok .readable .windows-count ∙ counted)) (ok .closes-past))
+        (λ i l. let li : i < r .ticket .events = omega (arith, counted, ok .readable .windows-count) in
+        sym (ap (λ (w : Window). w .closes) (window-at (r .ticket .events) (r .opens) (r .closes) i li))) t;
+    number = r .number;
+  }
+    where
+      flag-back : (x : ℕ) → x ≤ 1 → x ≡ flagByte (ltb 0 x)
+      flag-back zero l = refl
+      flag-back (suc zero) l = refl
+      flag-back (suc (suc x)) l = absurd (omega arith)
+
+  -- what writing it answers and leaves in the output
+  pub kept-written : (out : List ℕ) → 1948 ≤ length out
+      → (recordWritten out r .length ≡ length (writeState (stateOf r))) × (recordOutput out r ≡ over (writeState (stateOf r)) out)
+  kept-written out l =
+      let e : writingRecord out r [] ≡ got (writeState (stateOf r)) [] = ap (λ q. writingRecord out q []) kept-stored ∙ readable-written out (stateOf r) (ok .readable) l in
+      (ap (λ o. told o .length) e, ap (left out) e)
+
+-- the number of a point in an array
+pub point-in : (xs : List ℕ) (p : ℕ) → (p ≡ 0 → ⊥) → at xs (p - 1) ≡ at (0 ∷ xs) p
+point-in xs zero n = absurd (n refl)
+point-in xs (suc i) n = ap (at xs) (omega arith)

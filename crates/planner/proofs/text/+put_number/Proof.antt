@@ -1,0 +1,62 @@
+-- `planner::text::put_number` meets its contract, and ends since a tenth of a number above 9 is less than it. Assumes nothing.
+use Prim.Native.Nat.{ℕ, _<_, _+_, _/_, _%_}
+use mathlib.Core.Path.{_≡_, refl, sym, ap, subst, _∙_}
+use mathlib.Core.List.{List, [], _∷_}
+use native.Mathlib.Omega.{arith}
+use borrow.Author.Needs.{needs}
+use borrow.Fn.Kinds.{In}
+use borrow.Fn.PlainCycle.{Measures, is, falls, and}
+use lib.ListN.{length, length-append}
+use Rattle.planner.specs.Text.{decimal, decimal-short, decimal-long}
+use Rattle.planner.specs.Stores.{Puts, puts-then, puts-length}
+use Rattle.planner.proofs.text.put_number.Reads as put-number
+use Rattle.planner.proofs.text.put_number.Kinds as put-number-kinds
+use Rattle.planner.proofs.text.+put_number.Lts-put_number as put-number-lts
+use Rattle.planner.proofs.text.digit.Reads as digit-reads
+use Rattle.planner.proofs.text.put_byte.Reads as put-byte-reads
+use Rattle.planner.proofs.text.+put_number.{statement}
+use Rattle.planner.proofs.text.+put_number.Tie.{close}
+
+abbrev μ-put-number : Measures 1 put-number-kinds.ps ℕ
+μ-put-number κs a = a .1 .1 .0
+
+abbrev given : ℕ → In 1 put-number-kinds.ps
+given t = and 1 put-number-kinds.ps (is 1 put-number-kinds.ps μ-put-number t) put-number.Pre
+
+abbrev asked : ℕ → In 1 put-number-kinds.ps
+asked t = and 1 put-number-kinds.ps (falls 1 put-number-kinds.ps _<_ μ-put-number t) put-number.Pre
+
+put-byte-requires : (t : ℕ) → put-number-lts.Need-put-byte-requires (digit-reads.Asked, digit-reads.Learnt, put-byte-reads.Asked, put-byte-reads.Learnt, asked t, put-number.Post) (given t) put-number.Post
+put-byte-requires t c κs =
+    let a = c .before .before .before .before .args in
+    omega (arith, c .before .before .before .before .pre .1, ap length (decimal-short (a .x) (c .before .before .if1 .taken)))
+
+returns : (t : ℕ) → put-number-lts.Need-returns (digit-reads.Asked, digit-reads.Learnt, put-byte-reads.Asked, put-byte-reads.Learnt, asked t, put-number.Post) (given t) put-number.Post
+returns t c =
+    let a = c .before .before .before .before .before .before .before .args in
+    rw (decimal-short (a .x) (c .before .before .before .before .before .if1 .taken), ← (c .before .before .before .digit .ensures)) (c .before .before .put-byte .ensures)
+
+put-number-requires : (t : ℕ) → put-number-lts.Need-put-number-requires (digit-reads.Asked, digit-reads.Learnt, put-byte-reads.Asked, put-byte-reads.Learnt, asked t, put-number.Post) (given t) put-number.Post
+put-number-requires t c κs =
+    let a = c .before .before .before .args in
+    let l = decimal-long (a .x) (c .before .if1 .left) in
+    (omega (arith, c .before .before .before .pre .0), omega (arith, c .before .before .before .pre .1, simp length-append at (ap length l)))
+
+put-byte-requires-2 : (t : ℕ) → put-number-lts.Need-put-byte-requires-2 (digit-reads.Asked, digit-reads.Learnt, put-byte-reads.Asked, put-byte-reads.Learnt, asked t, put-number.Post) (given t) put-number.Post
+put-byte-requires-2 t c κs =
+    let a = c .before .before .before .before .before .before .before .before .args in
+    let p = c .before .before .before .before .put-number .ensures in
+    let l = decimal-long (a .x) (c .before .before .before .before .before .before .if1 .left) in
+    omega (arith, c .before .before .before .before .before .before .before .before .pre .1, p .end, puts-length p, simp length-append at (ap length l))
+
+same-length-2 : (t : ℕ) → put-number-lts.Need-same-length-2 (digit-reads.Asked, digit-reads.Learnt, put-byte-reads.Asked, put-byte-reads.Learnt, asked t, put-number.Post) (given t) put-number.Post
+same-length-2 t c = puts-length (c .before .before .put-byte2 .ensures) ∙ puts-length (c .before .before .before .before .before .before .before .put-number .ensures)
+
+returns-2 : (t : ℕ) → put-number-lts.Need-returns-2 (digit-reads.Asked, digit-reads.Learnt, put-byte-reads.Asked, put-byte-reads.Learnt, asked t, put-number.Post) (given t) put-number.Post
+returns-2 t c =
+    let a = c .before .before .before .before .before .before .before .before .before .before .before .args in
+    rw (decimal-long (a .x) (c .before .before .before .before .before .before .before .before .before .if1 .left), ← (c .before .before .before .digit2 .ensures)) (puts-then (c .before .before .before .before .before .before .before .put-number .ensures) (c .before .before .put-byte2 .ensures))
+
+pub +put-number-spec : {M : Type 1} → statement M
++put-number-spec = close μ-put-number λ t. put-number-lts.spec (digit-reads.Asked, digit-reads.Learnt, put-byte-reads.Asked, put-byte-reads.Learnt, asked t, put-number.Post) (given t) put-number.Post
+    (λ c κs. search needs) (put-byte-requires t) (λ c. search needs) (returns t) (put-number-requires t) (λ c κs. search needs) (put-byte-requires-2 t) (same-length-2 t) (returns-2 t)

@@ -1,0 +1,20 @@
+-- `planner::text::put_event` meets its contract: four parts, one after another, are a line. Assumes nothing.
+use mathlib.Core.List.{append-assoc}
+use native.Mathlib.Omega.{arith}
+use borrow.Author.Needs.{needs}
+use Rattle.planner.specs.Text.{line}
+use Rattle.planner.specs.Stores.{puts-then}
+use Rattle.planner.proofs.text.put_event.Statement.{statement}
+use Rattle.planner.proofs.text.put_event.Tie as tie
+
+returns : tie.Need-returns
+unfolding line
+returns c =
+    let p = c .before .before .before .before .before .before .before .before .before .before .before .before .before .before .put-part .ensures in
+    let q = c .before .before .before .before .before .before .before .before .before .before .put-part2 .ensures in
+    let r = c .before .before .before .before .before .before .put-part3 .ensures in
+    let s = c .before .before .put-part4 .ensures in
+    (simp append-assoc at (puts-then (p .0) (puts-then (q .0) (puts-then (r .0) (s .0)))), omega (arith, p .1, q .1, r .1, s .1))
+
+pub put-event-spec : {M : Type 1} → statement M
+put-event-spec = tie.close (tie.spec (λ c κs. search needs) (λ c κs. search needs) (λ c κs. search needs) (λ c κs. search needs) (λ c. search needs) returns)

@@ -1,0 +1,19 @@
+-- `planner::text::put_heading` meets its contract: the word and two parts are a line. Assumes nothing.
+use mathlib.Core.List.{append-assoc}
+use native.Mathlib.Omega.{arith}
+use borrow.Author.Needs.{needs}
+use Rattle.planner.specs.Text.{line}
+use Rattle.planner.specs.Stores.{puts-then}
+use Rattle.planner.proofs.text.put_heading.Statement.{statement}
+use Rattle.planner.proofs.text.put_heading.Tie as tie
+
+returns : tie.Need-returns
+unfolding line
+returns c =
+    let w = c .before .before .before .before .before .before .before .before .before .before .put-word .ensures in
+    let p = c .before .before .before .before .before .before .put-part .ensures in
+    let q = c .before .before .put-part2 .ensures in
+    (simp append-assoc at (puts-then w (puts-then (p .0) (q .0))), omega (arith, w .end, p .1, q .1))
+
+pub put-heading-spec : {M : Type 1} → statement M
+put-heading-spec = tie.close (tie.spec (λ c. search needs) (λ c κs. search needs) (λ c κs. search needs) (λ c κs. search needs) (λ c. search needs) returns)

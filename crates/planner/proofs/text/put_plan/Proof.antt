@@ -1,0 +1,11 @@
+-- `planner::text::put_plan` meets its contract: the heading, and then the lines. Assumes nothing.
+use borrow.Author.Needs.{needs}
+use Rattle.planner.specs.Stores.{puts-then}
+use Rattle.planner.proofs.text.put_plan.Statement.{statement}
+use Rattle.planner.proofs.text.put_plan.Tie as tie
+
+returns : tie.Need-returns
+returns c = puts-then (c .before .before .before .before .before .before .before .before .before .put-heading .ensures .0) (c .before .before .put-events .ensures)
+
+pub put-plan-spec : {M : Type 1} → statement M
+put-plan-spec = tie.close (tie.spec (λ c. search needs) (λ c κs. search needs) (λ c κs. search needs) (λ c. search needs) returns)

@@ -1,0 +1,13 @@
+-- `planner::text::put_refusal` meets its contract: the word and the number are a line. Assumes nothing.
+use borrow.Author.Needs.{needs}
+use Rattle.planner.specs.Text.{line}
+use Rattle.planner.specs.Stores.{puts-then}
+use Rattle.planner.proofs.text.put_refusal.Statement.{statement}
+use Rattle.planner.proofs.text.put_refusal.Tie as tie
+
+returns : tie.Need-returns
+unfolding line
+returns c = puts-then (c .before .before .before .before .before .before .put-word .ensures) (c .before .before .put-part .ensures .0)
+
+pub put-refusal-spec : {M : Type 1} → statement M
+put-refusal-spec = tie.close (tie.spec (λ c. search needs) (λ c κs. search needs) (λ c κs. search needs) (λ c. search needs) returns)

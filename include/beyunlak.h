@@ -1,0 +1,145 @@
+/*
+ * beyunlak.h - time windows for the devices of an imaging rig.
+ *
+ * A session has a horizon and up to 40 events, each owned by a device, and rules on the time between two
+ * points. beyunlak_plan gives every event a window, so that each device may pick any tick of its own window
+ * without asking the others and no rule is broken. beyunlak_commit fixes one event's window and widens the
+ * others as far as that allows.
+ *
+ * Link with libbeyunlak.a. It needs no other library, keeps nothing between two calls, allocates nothing
+ * and makes no system call.
+ *
+ * TIME AND POINTS
+ *   A tick is a tenth of a second. Point 0 is the start of the session, at tick 0. Points 1 to n are the
+ *   events. Every event lies between tick 0 and the horizon, without a rule that says so.
+ *
+ * A TICKET, the input of beyunlak_plan. Numbers are unsigned and little-endian unless noted.
+ *     offset       bytes  field
+ *     0            4      horizon, 0 to 1,000,000
+ *     4            2      n, the number of events, 0 to 40
+ *     6            n      the owner of each event: enum beyunlak_owner
+ *     6 + n        2      m, the number of rules, 0 to 256
+ *     8 + n + 6k   6      rule k, for k from 0 to m - 1:
+ *                           1 byte   from, a point
+ *                           1 byte   to, another point
+ *                           4 bytes  bound, signed (two's complement), -1,000,000 to 1,000,000
+ *   A rule says: time of `to` minus time of `from` is at most `bound`. "2 at least 5 ticks after 1" is the
+ *   rule from 2 to 1 with bound -5. A pair of points may have several rules.
+ *   A ticket has 8 + n + 6m bytes, and nothing follows it.
+ *
+ * A RECORD, the output of both functions and the input of beyunlak_commit. T stands for 8 + n + 6m.
+ *     offset       bytes  field
+ *     0            T      the ticket
+ *     T            2      n again
+ *     T + 2 + 9k   9      the window of event k + 1, for k from 0 to n - 1:
+ *                           1 byte   1 if the event is committed, 0 if it is free
+ *                           4 bytes  open, the first tick of the window
+ *                           4 bytes  close, the last tick; open <= close <= horizon
+ *     T + 2 + 9n   2      the number of committed events
+ *   A record has T + 4 + 9n bytes. The length is not returned, since n and m stand in the record.
+ *   A window of width 0 (open = close) is one tick. The total width of a plan, the sum of close - open, is not
+ *   stored: it follows from the windows.
+ *
+ * WHAT IS LEFT IN THE OUTPUT
+ *   Answer 0: the record stands at the start of `out`; the bytes after it are as they were.
+ *   Any other answer: all of `out` is as it was.
+ *
+ * WHAT A CALLER OWES
+ *   - No pointer is null, not even one whose length is 0, and each length is true.
+ *   - `out` does not overlap the ticket or the record. To commit again, swap two buffers (see below).
+ *   - While a call runs, nobody else writes its input or touches its output.
+ *   Calls in several threads need no lock where each has memory of its own. Both functions end after a
+ *   bounded number of steps, whatever bytes they are given, and use some tens of kilobytes of stack.
+ *   Bytes from a stranger are safe: they are refused or planned, and never read or written past their length.
+ *
+ * EXAMPLE (examples/host.c is a whole program)
+ *
+ *     uint8_t ticket[BEYUNLAK_TICKET_MAX], plan[BEYUNLAK_RECORD_MAX], next[BEYUNLAK_RECORD_MAX];
+ *     size_t ticket_len = fill_in(ticket);
+ *
+ *     uint32_t answer = beyunlak_plan(ticket, ticket_len, plan, sizeof plan);
+ *     if (answer != BEYUNLAK_ACCEPTED)
+ *         return give_up(answer);
+ *
+ *     answer = beyunlak_commit(plan, BEYUNLAK_RECORD_LENGTH(2, 6), 1, 10, 10, next, sizeof next);
+ *     if (answer == BEYUNLAK_ACCEPTED)
+ *         use(next);                       // hand `next` in and take `plan` as output the next time
+ */
+#ifndef BEYUNLAK_H
+#define BEYUNLAK_H
+
+#include <stddef.h>
+#include <stdint.h>
+
+#ifdef __cplusplus
+extern "C" {
+#endif
+
+/* Limits of a ticket. */
+#define BEYUNLAK_HORIZON_MAX 1000000
+#define BEYUNLAK_EVENTS_MAX 40
+#define BEYUNLAK_RULES_MAX 256
+#define BEYUNLAK_BOUND_MAX 1000000 /* either way: -1,000,000 to 1,000,000 */
+
+/* Lengths in bytes, for n events and m rules. */
+#define BEYUNLAK_TICKET_LENGTH(n, m) (8 + (size_t)(n) + 6 * (size_t)(m))
+#define BEYUNLAK_RECORD_LENGTH(n, m) (BEYUNLAK_TICKET_LENGTH(n, m) + 4 + 9 * (size_t)(n))
+
+/* The longest ticket and the longest record. An output holds at least BEYUNLAK_RECORD_MAX bytes, also for a
+ * short record: under that the answer is BEYUNLAK_SHORT. */
+#define BEYUNLAK_TICKET_MAX 1584
+#define BEYUNLAK_RECORD_MAX 1948
+
+/* The devices that own events. */
+enum beyunlak_owner {
+    BEYUNLAK_CAMERA = 0,
+    BEYUNLAK_FILTER_WHEEL = 1,
+    BEYUNLAK_LAMPS = 2,
+    BEYUNLAK_STAGE = 3,
+    BEYUNLAK_DATABASE = 4
+};
+
+/* The answers. The output's length is tested first. Then the input is read field by field in the order of its
+ * bytes, each field's presence before its value, and the first cause decides. Then come 9 for a ticket, and
+ * 15, 11, 12, 13 in this order for a commitment. */
+enum beyunlak_answer {
+    BEYUNLAK_ACCEPTED = 0,
+    BEYUNLAK_CUT = 1,        /* the bytes end inside a field */
+    BEYUNLAK_HORIZON = 2,    /* the horizon is above 1,000,000 */
+    BEYUNLAK_EVENTS = 3,     /* there are more than 40 events */
+    BEYUNLAK_OWNER = 4,      /* an owner is above 4 */
+    BEYUNLAK_RULES = 5,      /* there are more than 256 rules */
+    BEYUNLAK_POINTS = 6,     /* a point of a rule is above n, or both are the same */
+    BEYUNLAK_BOUND = 7,      /* a bound is below -1,000,000 or above 1,000,000 */
+    BEYUNLAK_TRAILING = 8,   /* bytes follow the end of the ticket or record */
+    BEYUNLAK_IMPOSSIBLE = 9, /* no times keep all rules (planning only) */
+    BEYUNLAK_SHORT = 10,     /* the output is shorter than BEYUNLAK_RECORD_MAX */
+    BEYUNLAK_EVENT = 11,     /* a commitment to event 0 or to one above n */
+    BEYUNLAK_COMMITTED = 12, /* the event is committed already */
+    BEYUNLAK_WINDOW = 13,    /* open is above close, or they are not inside the event's window */
+    BEYUNLAK_LAYOUT = 14,    /* the record's second count, a flag, a window or the last number is wrong */
+    BEYUNLAK_UNFIT = 15      /* the record's windows allow a choice that breaks a rule */
+};
+
+/*
+ * The plan of a ticket: of all sets of windows from which every choice keeps all rules, the one of the largest
+ * total width; where several are equally wide, the one in which every open and every close is earliest.
+ * Answers 0 to 10.
+ */
+uint32_t beyunlak_plan(const uint8_t *ticket, size_t ticket_len, uint8_t *out, size_t out_len);
+
+/*
+ * The record after `event` is committed to the window `open` to `close`, which lies inside its present one.
+ * Committed events keep their windows and every free window contains its former one; of all such sets the
+ * widest is taken, then the earliest, as in a plan. The record may come from a plan, from a commitment, or
+ * from elsewhere, if its windows are fit. After a refusal go on with the record that was handed in.
+ * Answers 0 to 8 and 10 to 15.
+ */
+uint32_t beyunlak_commit(const uint8_t *record, size_t record_len, uint32_t event, uint32_t open,
+                         uint32_t close, uint8_t *out, size_t out_len);
+
+#ifdef __cplusplus
+}
+#endif
+
+#endif

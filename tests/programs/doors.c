@@ -1,0 +1,232 @@
+/* The header against the library: every answer under its name, the lengths, what is left in the output, and the
+ * examples of commitments. Prints a line a check, "ok NAME" or "FAILED NAME". */
+#include <stdio.h>
+#include <string.h>
+
+#include "beyunlak.h"
+
+static uint8_t in[4096], out[4096], before[4096];
+static size_t in_len;
+
+static void put(uint32_t value, int bytes)
+{
+    for (int i = 0; i < bytes; i++)
+        in[in_len++] = (uint8_t)(value >> (8 * i));
+}
+
+static void check(const char *name, int good)
+{
+    printf("%s %s\n", good ? "ok" : "FAILED", name);
+}
+
+static void start(uint32_t horizon, uint32_t n)
+{
+    in_len = 0;
+    put(horizon, 4);
+    put(n, 2);
+}
+
+static void owners(uint32_t n, uint32_t owner)
+{
+    for (uint32_t i = 0; i < n; i++)
+        put(owner, 1);
+}
+
+static void rule(uint32_t from, uint32_t to, int32_t bound)
+{
+    put(from, 1);
+    put(to, 1);
+    put((uint32_t)bound, 4);
+}
+
+static void window(uint32_t flag, uint32_t open, uint32_t close)
+{
+    put(flag, 1);
+    put(open, 4);
+    put(close, 4);
+}
+
+/* The ticket of P1, and a record of it with two windows. */
+static void trains(void)
+{
+    start(20, 2);
+    put(BEYUNLAK_CAMERA, 1);
+    put(BEYUNLAK_LAMPS, 1);
+    put(6, 2);
+    rule(0, 1, 15);
+    rule(1, 0, -5);
+    rule(0, 2, 20);
+    rule(2, 0, -8);
+    rule(1, 2, 4);
+    rule(2, 1, 2);
+}
+
+static void trains_record(uint32_t flag, uint32_t a, uint32_t b, uint32_t c, uint32_t d, uint32_t count)
+{
+    trains();
+    put(2, 2);
+    window(flag, a, b);
+    window(0, c, d);
+    put(count, 2);
+}
+
+static void fill(void)
+{
+    for (size_t i = 0; i < sizeof out; i++)
+        out[i] = before[i] = (uint8_t)(i * 7 + 3);
+}
+
+static uint32_t plan(size_t out_len)
+{
+    fill();
+    return beyunlak_plan(in, in_len, out, out_len);
+}
+
+static uint32_t commit(uint32_t event, uint32_t open, uint32_t close, size_t out_len)
+{
+    fill();
+    return beyunlak_commit(in, in_len, event, open, close, out, out_len);
+}
+
+static int untouched_from(size_t at)
+{
+    return memcmp(out + at, before + at, sizeof out - at) == 0;
+}
+
+static void refuses(const char *name, uint32_t answer, uint32_t wanted)
+{
+    check(name, answer == wanted && untouched_from(0));
+}
+
+/* The input is the record that is wanted. */
+static void gives(const char *name, uint32_t answer)
+{
+    check(name, answer == BEYUNLAK_ACCEPTED && memcmp(out, in, in_len) == 0 && untouched_from(in_len));
+}
+
+static void tickets(void)
+{
+    in_len = 0;
+    refuses("1 empty", plan(BEYUNLAK_RECORD_MAX), BEYUNLAK_CUT);
+    trains();
+    in_len--;
+    refuses("1 cut rule", plan(BEYUNLAK_RECORD_MAX), BEYUNLAK_CUT);
+    start(BEYUNLAK_HORIZON_MAX + 1, 0);
+    refuses("2", plan(BEYUNLAK_RECORD_MAX), BEYUNLAK_HORIZON);
+    start(BEYUNLAK_HORIZON_MAX, BEYUNLAK_EVENTS_MAX + 1);
+    refuses("3", plan(BEYUNLAK_RECORD_MAX), BEYUNLAK_EVENTS);
+    start(5, 1);
+    put(BEYUNLAK_DATABASE + 1, 1);
+    refuses("4", plan(BEYUNLAK_RECORD_MAX), BEYUNLAK_OWNER);
+    start(5, 1);
+    put(BEYUNLAK_DATABASE, 1);
+    put(BEYUNLAK_RULES_MAX + 1, 2);
+    refuses("5", plan(BEYUNLAK_RECORD_MAX), BEYUNLAK_RULES);
+    start(5, 1);
+    put(BEYUNLAK_STAGE, 1);
+    put(1, 2);
+    rule(0, 2, 3);
+    refuses("6", plan(BEYUNLAK_RECORD_MAX), BEYUNLAK_POINTS);
+    start(5, 1);
+    put(BEYUNLAK_FILTER_WHEEL, 1);
+    put(1, 2);
+    rule(0, 1, -BEYUNLAK_BOUND_MAX - 1);
+    refuses("7", plan(BEYUNLAK_RECORD_MAX), BEYUNLAK_BOUND);
+    trains();
+    put(0, 1);
+    refuses("8", plan(BEYUNLAK_RECORD_MAX), BEYUNLAK_TRAILING);
+    start(5, 1);
+    put(BEYUNLAK_STAGE, 1);
+    put(1, 2);
+    rule(1, 0, -6);
+    refuses("9", plan(BEYUNLAK_RECORD_MAX), BEYUNLAK_IMPOSSIBLE);
+    trains();
+    refuses("10 plan", plan(BEYUNLAK_RECORD_MAX - 1), BEYUNLAK_SHORT);
+    in_len = 0;
+    refuses("10 first", plan(0), BEYUNLAK_SHORT);
+}
+
+static void records(void)
+{
+    trains_record(0, 5, 10, 8, 9, 0);
+    refuses("10 commit", commit(1, 10, 10, BEYUNLAK_RECORD_MAX - 1), BEYUNLAK_SHORT);
+    refuses("11 event 0", commit(0, 10, 10, BEYUNLAK_RECORD_MAX), BEYUNLAK_EVENT);
+    refuses("11 event n + 1", commit(3, 10, 10, BEYUNLAK_RECORD_MAX), BEYUNLAK_EVENT);
+    refuses("13 open above close", commit(1, 9, 8, BEYUNLAK_RECORD_MAX), BEYUNLAK_WINDOW);
+    refuses("13 outside", commit(2, 8, 10, BEYUNLAK_RECORD_MAX), BEYUNLAK_WINDOW);
+    trains_record(1, 5, 10, 8, 9, 1);
+    refuses("12", commit(1, 6, 6, BEYUNLAK_RECORD_MAX), BEYUNLAK_COMMITTED);
+    trains_record(0, 5, 10, 8, 9, 1);
+    refuses("14 last number", commit(1, 6, 6, BEYUNLAK_RECORD_MAX), BEYUNLAK_LAYOUT);
+    trains_record(0, 5, 4, 8, 9, 0);
+    refuses("14 window", commit(1, 6, 6, BEYUNLAK_RECORD_MAX), BEYUNLAK_LAYOUT);
+    trains_record(0, 5, 15, 8, 19, 0);
+    refuses("15", commit(0, 9, 8, BEYUNLAK_RECORD_MAX), BEYUNLAK_UNFIT);
+    trains();
+    refuses("1 ticket as record", commit(1, 6, 6, BEYUNLAK_RECORD_MAX), BEYUNLAK_CUT);
+}
+
+static void examples(void)
+{
+    uint32_t answer;
+    trains();
+    answer = plan(BEYUNLAK_RECORD_MAX);
+    trains_record(0, 5, 10, 8, 9, 0);
+    gives("P1", answer);
+    check("record length", in_len == BEYUNLAK_RECORD_LENGTH(2, 6));
+    answer = commit(1, 10, 10, BEYUNLAK_RECORD_MAX);
+    trains_record(1, 10, 10, 8, 14, 1);
+    gives("P2", answer);
+    trains_record(0, 15, 15, 13, 19, 0);
+    answer = commit(2, 13, 13, sizeof out);
+    trains();
+    put(2, 2);
+    window(0, 9, 15);
+    window(1, 13, 13);
+    put(1, 2);
+    gives("P3", answer);
+    for (int last = 0; last < 2; last++) {
+        start(5, 3);
+        owners(3, BEYUNLAK_STAGE);
+        put(2, 2);
+        rule(1, 2, 0);
+        rule(2, 3, 0);
+        put(3, 2);
+        window((uint32_t)last, last ? 2 : 0, last ? 2 : 5);
+        window(0, 0, last ? 2 : 0);
+        window(0, 0, 0);
+        put((uint32_t)last, 2);
+        if (last)
+            gives("P5", answer);
+        else
+            answer = commit(1, 2, 2, BEYUNLAK_RECORD_MAX);
+    }
+}
+
+/* The longest ticket and record: 40 events, 256 rules. */
+static void longest(void)
+{
+    uint32_t answer;
+    start(BEYUNLAK_HORIZON_MAX, BEYUNLAK_EVENTS_MAX);
+    owners(BEYUNLAK_EVENTS_MAX, BEYUNLAK_DATABASE);
+    put(BEYUNLAK_RULES_MAX, 2);
+    for (uint32_t i = 0; i < BEYUNLAK_RULES_MAX; i++)
+        rule(i % 40, i % 40 + 1, BEYUNLAK_BOUND_MAX);
+    check("longest ticket", in_len == BEYUNLAK_TICKET_MAX && in_len == BEYUNLAK_TICKET_LENGTH(40, 256));
+    answer = plan(BEYUNLAK_RECORD_MAX);
+    put(BEYUNLAK_EVENTS_MAX, 2);
+    for (int i = 0; i < BEYUNLAK_EVENTS_MAX; i++)
+        window(0, 0, BEYUNLAK_HORIZON_MAX);
+    put(0, 2);
+    check("longest record", in_len == BEYUNLAK_RECORD_MAX && in_len == BEYUNLAK_RECORD_LENGTH(40, 256));
+    gives("plan of the longest ticket", answer);
+}
+
+int main(void)
+{
+    tickets();
+    records();
+    examples();
+    longest();
+    return 0;
+}

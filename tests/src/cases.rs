@@ -1,0 +1,332 @@
+//! Kinds of cases. One seed gives one case: some tickets or records and the calls on them.
+
+use crate::generate::{self, Structure, STRUCTURES};
+use crate::library::Library;
+use crate::model::calls::{self, Loose};
+use crate::model::{reading, writing, Commitment, Record, Rule, Solver, Ticket};
+use crate::random::Random;
+use crate::trial::{Lengths, Report, Trial, ENOUGH};
+
+#[derive(Clone, Copy, Debug, PartialEq, Eq)]
+pub enum Kind {
+    /// Tiny tickets, expected answers by exhaustive search.
+    Tiny,
+    /// Tickets of all structures and sizes up to the largest, each planned and run to the end.
+    Structures,
+    /// Long runs of commitments on largest tickets, refused ones mixed in.
+    Runs,
+    /// Records that no planning made.
+    Foreign,
+    /// Bytes damaged, cut and extended.
+    Damaged,
+    /// Every prefix of a ticket and a record, and one byte more.
+    Prefixes,
+    /// Output and scratch lengths around the limits.
+    Lengths,
+    /// Table and writing with values that no ticket holds.
+    Values,
+}
+
+pub const KINDS: [Kind; 8] = [
+    Kind::Tiny,
+    Kind::Structures,
+    Kind::Runs,
+    Kind::Foreign,
+    Kind::Damaged,
+    Kind::Prefixes,
+    Kind::Lengths,
+    Kind::Values,
+];
+
+impl Kind {
+    pub fn name(self) -> &'static str {
+        match self {
+            Kind::Tiny => "tiny",
+            Kind::Structures => "structures",
+            Kind::Runs => "runs",
+            Kind::Foreign => "foreign",
+            Kind::Damaged => "damaged",
+            Kind::Prefixes => "prefixes",
+            Kind::Lengths => "lengths",
+            Kind::Values => "values",
+        }
+    }
+
+    pub fn named(name: &str) -> Option<Kind> {
+        KINDS.into_iter().find(|kind| kind.name() == name)
+    }
+
+    /// The kind that a long run tries at this seed.
+    pub fn at(seed: u64) -> Kind {
+        match Random::new(seed ^ 0x6b69_6e64).below(1_000) {
+            0..=199 => Kind::Tiny,
+            200..=479 => Kind::Structures,
+            480..=559 => Kind::Runs,
+            560..=839 => Kind::Foreign,
+            840..=939 => Kind::Damaged,
+            940..=943 => Kind::Prefixes,
+            944..=946 => Kind::Lengths,
+            _ => Kind::Values,
+        }
+    }
+}
+
+/// The case of this kind at this seed.
+pub fn run(kind: Kind, seed: u64, library: &dyn Library) -> Report {
+    let mut trial = Trial::new(library, seed);
+    match kind {
+        Kind::Tiny => tiny(&mut trial),
+        Kind::Structures => structures(&mut trial, seed),
+        Kind::Runs => runs(&mut trial),
+        Kind::Foreign => foreign(&mut trial),
+        Kind::Damaged => damaged(&mut trial),
+        Kind::Prefixes => prefixes(&mut trial),
+        Kind::Lengths => lengths(&mut trial),
+        Kind::Values => values(&mut trial),
+    }
+    trial.report
+}
+
+/// Table and both round trips of one ticket, then its plan.
+fn planned(trial: &mut Trial, ticket: &Ticket) -> Option<Vec<u8>> {
+    let bytes = writing::ticket(ticket);
+    let length = some_length(calls::TABLE, &mut trial.random);
+    trial.table(ticket.horizon, ticket.events() as u32, &ticket.rules, length);
+    trial.rewrite_ticket(&bytes, calls::TICKET);
+    let record = trial.plan(&bytes, ENOUGH);
+    if let Some(record) = &record {
+        trial.rewrite_record(record, calls::RECORD);
+    }
+    record
+}
+
+/// Commits on a record until `most` commitments are tried or every event is committed; `refused` percent of
+/// the calls bring a commitment with something wrong or too little memory.
+fn commit_on(trial: &mut Trial, start: Vec<u8>, most: usize, refused: usize) {
+    let Ok(mut record) = reading::record(&start) else {
+        trial.report.differences.push("an unreadable record was written".to_string());
+        return;
+    };
+    let mut bytes = start;
+    for _ in 0..most {
+        let wrong = trial.random.chance(refused);
+        let commitment = if wrong {
+            generate::refused_commitment(&record, &mut trial.random)
+        } else {
+            generate::commitment(&record, &mut trial.random)
+        };
+        let lengths = if wrong { some_lengths(&mut trial.random) } else { ENOUGH };
+        if let Some(after) = trial.commit(&bytes, commitment, lengths) {
+            let Some(next) = trial.follows(&record, commitment, &after) else { return };
+            record = next;
+            bytes = after;
+        }
+        if !trial.report.differences.is_empty() || record.committed.iter().all(|&flag| flag) {
+            return;
+        }
+    }
+}
+
+fn tiny(trial: &mut Trial) {
+    trial.solver = Solver::Exhaustive;
+    let ticket = generate::tiny(&mut trial.random);
+    if let Some(record) = planned(trial, &ticket) {
+        commit_on(trial, record, 6, 20);
+    }
+    let record = generate::foreign_record(ticket, &mut trial.random);
+    commit_on(trial, writing::record(&record), 4, 10);
+}
+
+fn structures(trial: &mut Trial, seed: u64) {
+    let (n, horizon) = generate::size(&mut trial.random);
+    let structure = STRUCTURES[seed as usize % STRUCTURES.len()];
+    let ticket = generate::ticket(structure, n, horizon, &mut trial.random);
+    if let Some(record) = planned(trial, &ticket) {
+        commit_on(trial, record, 6, 15);
+    }
+}
+
+fn runs(trial: &mut Trial) {
+    let structure = trial.random.pick(&[
+        Structure::Session,
+        Structure::Hidden,
+        Structure::Chain,
+        Structure::Diamonds,
+        Structure::Precedence,
+        Structure::Ring,
+    ]);
+    let n = trial.random.pick(&[10, 20, 40]);
+    let horizon = trial.random.pick(&[40, 36_000, 1_000_000]);
+    let ticket = generate::ticket(structure, n, horizon, &mut trial.random);
+    if let Some(record) = planned(trial, &ticket) {
+        commit_on(trial, record, 70, 30);
+    }
+}
+
+fn foreign(trial: &mut Trial) {
+    let (n, horizon) = generate::size(&mut trial.random);
+    let structure = trial.random.pick(&STRUCTURES);
+    let ticket = generate::ticket(structure, n, horizon, &mut trial.random);
+    let record = generate::foreign_record(ticket, &mut trial.random);
+    let bytes = writing::record(&record);
+    trial.rewrite_record(&bytes, calls::RECORD);
+    commit_on(trial, bytes, 3, 25);
+}
+
+/// A ticket and a record of it with windows that need not be fit.
+fn ticket_and_record(random: &mut Random) -> (Vec<u8>, Record) {
+    let (n, horizon) = generate::size(random);
+    let structure = random.pick(&STRUCTURES);
+    let ticket = generate::ticket(structure, n.min(12), horizon, random);
+    (writing::ticket(&ticket), generate::foreign_record(ticket, random))
+}
+
+fn damaged(trial: &mut Trial) {
+    let (ticket, record) = ticket_and_record(&mut trial.random);
+    let record_bytes = writing::record(&record);
+    for _ in 0..4 {
+        let bytes = generate::damaged(&ticket, &mut trial.random);
+        trial.rewrite_ticket(&bytes, calls::TICKET);
+        trial.plan(&bytes, ENOUGH);
+        let bytes = generate::damaged(&record_bytes, &mut trial.random);
+        let commitment = generate::commitment(&record, &mut trial.random);
+        trial.rewrite_record(&bytes, calls::RECORD);
+        trial.commit(&bytes, commitment, ENOUGH);
+    }
+    // A record is no ticket, and a ticket no record.
+    trial.plan(&record_bytes, ENOUGH);
+    trial.commit(&ticket, Commitment { event: 1, open: 0, close: 0 }, ENOUGH);
+}
+
+fn prefixes(trial: &mut Trial) {
+    let (mut ticket, record) = ticket_and_record(&mut trial.random);
+    let mut bytes = writing::record(&record);
+    let commitment = generate::commitment(&record, &mut trial.random);
+    ticket.push(trial.random.next() as u8);
+    bytes.push(trial.random.next() as u8);
+    let steps = 1 + ticket.len() / 200;
+    for length in (0..=ticket.len()).rev().step_by(steps) {
+        trial.rewrite_ticket(&ticket[..length], calls::TICKET);
+        trial.plan(&ticket[..length], ENOUGH);
+    }
+    for length in (0..=bytes.len()).rev().step_by(steps) {
+        trial.rewrite_record(&bytes[..length], calls::RECORD);
+        trial.commit(&bytes[..length], commitment, ENOUGH);
+    }
+}
+
+fn lengths(trial: &mut Trial) {
+    let (ticket, record) = ticket_and_record(&mut trial.random);
+    let bytes = writing::record(&record);
+    let commitment = generate::commitment(&record, &mut trial.random);
+    let around = |limit: usize| limit - 3..=limit + 3;
+    for out in around(calls::RECORD) {
+        for scratch in around(calls::SCRATCH) {
+            trial.plan(&ticket, Lengths { out, scratch });
+            trial.commit(&bytes, commitment, Lengths { out, scratch });
+        }
+        trial.rewrite_record(&bytes, out);
+    }
+    for out in around(calls::TICKET) {
+        trial.rewrite_ticket(&ticket, out);
+    }
+    for out in around(calls::TABLE) {
+        let Record { ticket, .. } = &record;
+        trial.table(ticket.horizon, ticket.events() as u32, &ticket.rules, out);
+    }
+    for out in [0, 1, bytes.len() - 1, bytes.len(), 4_000] {
+        for scratch in [0, 1, 2_400, 20_000] {
+            trial.plan(&ticket, Lengths { out, scratch });
+            trial.commit(&bytes, commitment, Lengths { out, scratch });
+            trial.plan(&[], Lengths { out, scratch });
+            trial.commit(&[], commitment, Lengths { out, scratch });
+        }
+        trial.rewrite_record(&bytes, out);
+        trial.rewrite_ticket(&ticket, out);
+    }
+}
+
+fn values(trial: &mut Trial) {
+    for _ in 0..4 {
+        let random = &mut trial.random;
+        let (n, horizon) = generate::size(random);
+        let structure = random.pick(&STRUCTURES);
+        let ticket = generate::ticket(structure, n, horizon, random);
+        let mut rules = ticket.rules;
+        let mut events = n as u32;
+        let mut horizon = horizon;
+        let mut owners = [0; 40];
+        owners[..n].copy_from_slice(&ticket.owners);
+        for _ in 0..random.below(3) {
+            disturb(&mut horizon, &mut events, &mut owners, &mut rules, random);
+        }
+        let length = some_length(calls::TABLE, random);
+        let out = some_length(calls::TICKET, random);
+        let loose = loosened(horizon, events, owners, &rules, random);
+        trial.table(horizon, events, &rules, length);
+        trial.write_ticket(&loose, out);
+    }
+}
+
+/// One value at or past a limit.
+fn disturb(horizon: &mut u32, events: &mut u32, owners: &mut [u8; 40], rules: &mut Vec<Rule>, random: &mut Random) {
+    let n = *events as usize;
+    match random.below(7) {
+        0 => *horizon = random.pick(&[1_000_000, 1_000_001, 16_777_216, u32::MAX]),
+        1 => *events = random.pick(&[0, 39, 40, 41, 255, 256, 65_536, u32::MAX]),
+        2 => owners[random.below(40)] = random.pick(&[4, 5, 255]),
+        3 => {
+            let rule = Rule { from: 0, to: 1, bound: 1_000_000 };
+            rules.resize(random.pick(&[255, 256, 257, 300]), rule);
+        }
+        _ if rules.is_empty() => {}
+        4 => {
+            let k = random.below(rules.len());
+            rules[k].from = random.pick(&[0, n.min(255) as u8, (n + 1).min(255) as u8, 255]);
+        }
+        5 => {
+            let k = random.below(rules.len());
+            rules[k].to = random.pick(&[rules[k].from, (n + 1).min(255) as u8, 255]);
+        }
+        _ => {
+            let k = random.below(rules.len());
+            rules[k].bound = random.pick(&[-1_000_000, -1_000_001, 1_000_001, 1_000_000, i32::MIN, i32::MAX]);
+        }
+    }
+}
+
+/// The ticket's arrays; by chance the count of rules is not that of the list, and places past it are not 0.
+fn loosened(horizon: u32, events: u32, owners: [u8; 40], rules: &[Rule], random: &mut Random) -> Loose {
+    let count = if random.chance(90) { rules.len() as u32 } else { random.pick(&[0, 256, 257, 65_536, u32::MAX]) };
+    let rest = random.pick(&[0, 0, 1, 255]);
+    let mut loose = Loose {
+        horizon,
+        events,
+        owners,
+        rules: count,
+        from: [rest; 256],
+        to: [rest; 256],
+        bound: [-(rest as i32) * 9_000_000; 256],
+    };
+    for (k, rule) in rules.iter().take(256).enumerate() {
+        loose.from[k] = rule.from;
+        loose.to[k] = rule.to;
+        loose.bound[k] = rule.bound;
+    }
+    loose
+}
+
+/// The least length, one more or less, or far from it.
+fn some_length(least: usize, random: &mut Random) -> usize {
+    match random.below(10) {
+        0 => least - 1,
+        1 => least + 1,
+        2 => least + random.below(500),
+        3 => random.below(least),
+        _ => least,
+    }
+}
+
+fn some_lengths(random: &mut Random) -> Lengths {
+    Lengths { out: some_length(calls::RECORD, random), scratch: some_length(calls::SCRATCH, random) }
+}

@@ -1,0 +1,321 @@
+//! Libraries with one planted fault each. The self-check has the quick part find every one of them.
+
+use crate::library::{self, Library, Model};
+use crate::model::calls::{self, Answer, Loose, Outcome};
+use crate::model::{distances, reading, writing, Commitment, Range, Record, Rule, Solver, Ticket, Window};
+
+#[derive(Clone, Copy, Debug, PartialEq, Eq)]
+pub enum Fault {
+    /// Every ticket has no schedule.
+    RefusesAll,
+    /// Every window is 0..0.
+    OnePlan,
+    /// Answers are right but nothing is written.
+    Silent,
+    /// After the first commitment the record comes back as it was.
+    EchoesLater,
+    /// The number of commitments rises by two.
+    InventsCount,
+    /// A widest plan that is not the earliest.
+    LatestPlan,
+    /// Earliest to latest of each event as its window.
+    EarliestToLatest,
+    /// Planning afresh after a commitment: free windows may lose ticks.
+    ForgetsFormer,
+    /// The other windows stay as they are after a commitment.
+    NoWidening,
+    /// The total leaves committed windows out.
+    TotalOfFree,
+    /// Fitness tried on middle ticks only.
+    MiddleTicks,
+    /// A ring of rules of sum 0 counts as impossible.
+    RefusesZeroRing,
+    /// The last number of a record is not looked at.
+    AnyCount,
+    /// A rule's bound is looked at before its points.
+    BoundFirst,
+    /// Bytes after the end are not noticed.
+    BytesAfter,
+    /// Any output that holds the record is enough.
+    ShortOutput,
+    /// A byte after the record is cleared.
+    TouchesRest,
+    /// Scratch stays as it is on a refusal.
+    DirtyScratch,
+    /// The table leaves out paths through the last event.
+    TableStops,
+    /// Whether the window lies inside is looked at before whether the event is committed.
+    InsideFirst,
+}
+
+pub const FAULTS: [Fault; 20] = [
+    Fault::RefusesAll,
+    Fault::OnePlan,
+    Fault::Silent,
+    Fault::EchoesLater,
+    Fault::InventsCount,
+    Fault::LatestPlan,
+    Fault::EarliestToLatest,
+    Fault::ForgetsFormer,
+    Fault::NoWidening,
+    Fault::TotalOfFree,
+    Fault::MiddleTicks,
+    Fault::RefusesZeroRing,
+    Fault::AnyCount,
+    Fault::BoundFirst,
+    Fault::BytesAfter,
+    Fault::ShortOutput,
+    Fault::TouchesRest,
+    Fault::DirtyScratch,
+    Fault::TableStops,
+    Fault::InsideFirst,
+];
+
+pub struct Faulty {
+    pub fault: Fault,
+}
+
+/// The latest of the widest plans: the earliest one when time runs backwards.
+fn latest(ticket: &Ticket) -> Option<Vec<Window>> {
+    let h = ticket.horizon as i32;
+    let turned = |r: &Rule| match (r.from, r.to) {
+        (0, to) => Rule { from: to, to: 0, bound: r.bound - h },
+        (from, 0) => Rule { from: 0, to: from, bound: r.bound + h },
+        (from, to) => Rule { from: to, to: from, bound: r.bound },
+    };
+    let mirror = Ticket { rules: ticket.rules.iter().map(turned).collect(), ..ticket.clone() };
+    let windows = mirror.best(&mirror.any_windows(), Solver::Flow)?;
+    let back = |w: &Window| Window { open: ticket.horizon - w.close, close: ticket.horizon - w.open };
+    Some(windows.iter().map(back).collect())
+}
+
+fn earliest_to_latest(ticket: &Ticket) -> Option<Vec<Window>> {
+    let rows = distances::table(ticket)?;
+    let window = |k: usize| Window { open: (-rows[k][0]) as u32, close: rows[0][k] as u32 };
+    Some((1..=ticket.events()).map(window).collect())
+}
+
+fn has_zero_ring(ticket: &Ticket) -> bool {
+    let points = 1..=ticket.events();
+    distances::table(ticket).is_some_and(|d| points.clone().any(|i| (1..i).any(|j| d[i][j] + d[j][i] == 0)))
+}
+
+/// The record with its last number mended, if that is all that is wrong with it.
+fn with_mended_count(bytes: &[u8]) -> Vec<u8> {
+    let mut mended = bytes.to_vec();
+    if bytes.len() >= 2 && reading::record(bytes) == Err(14) {
+        for count in 0..=40u16 {
+            let at = mended.len() - 2;
+            mended[at..].copy_from_slice(&count.to_le_bytes());
+            if reading::record(&mended).is_ok() {
+                return mended;
+            }
+        }
+    }
+    bytes.to_vec()
+}
+
+/// The longest prefix that reads as a ticket, if there is one.
+fn ticket_prefix(bytes: &[u8]) -> &[u8] {
+    let whole = |length: &usize| reading::ticket(&bytes[..*length]).is_ok();
+    match reading::ticket(bytes) {
+        Err(8) => &bytes[..(0..bytes.len()).find(whole).unwrap_or(bytes.len())],
+        _ => bytes,
+    }
+}
+
+/// 7 instead of 6 where both apply to the rule that is refused.
+fn bound_first(bytes: &[u8], number: u32) -> u32 {
+    let rules = 8 + bytes.get(4).map_or(0, |&n| n as usize);
+    let rule = (rules..bytes.len().saturating_sub(5)).step_by(6).find(|&at| {
+        let (from, to) = (bytes[at], bytes[at + 1]);
+        from == to || from > bytes[4] || to > bytes[4]
+    });
+    match rule {
+        Some(at) if number == 6 => {
+            let bound = i32::from_le_bytes([bytes[at + 2], bytes[at + 3], bytes[at + 4], bytes[at + 5]]);
+            if bound.unsigned_abs() > 1_000_000 {
+                7
+            } else {
+                6
+            }
+        }
+        _ => number,
+    }
+}
+
+impl Faulty {
+    fn planned(&self, bytes: &[u8]) -> Outcome {
+        let bytes = if self.fault == Fault::BytesAfter { ticket_prefix(bytes) } else { bytes };
+        let (mut record, mut total) = library::planned(bytes).map_err(|number| match self.fault {
+            Fault::BoundFirst => bound_first(bytes, number),
+            _ => number,
+        })?;
+        match self.fault {
+            Fault::RefusesAll => return Err(9),
+            Fault::OnePlan => record.windows.fill(Window { open: 0, close: 0 }),
+            Fault::LatestPlan => record.windows = latest(&record.ticket).ok_or(9u32)?,
+            Fault::EarliestToLatest => {
+                record.windows = earliest_to_latest(&record.ticket).ok_or(9u32)?;
+                total = record.ticket.total(&record.windows);
+            }
+            Fault::RefusesZeroRing if has_zero_ring(&record.ticket) => return Err(9),
+            _ => {}
+        }
+        Ok((record, total))
+    }
+
+    fn committed(&self, bytes: &[u8], commitment: Commitment) -> Outcome {
+        let mended = if self.fault == Fault::AnyCount { with_mended_count(bytes) } else { bytes.to_vec() };
+        let outcome = library::committed(&mended, commitment);
+        let former = reading::record(&mended);
+        match (self.fault, outcome, former) {
+            (Fault::EchoesLater, Ok((_, total)), Ok(former)) if former.accepted > 0 => Ok((former, total)),
+            (Fault::InventsCount, Ok((mut record, total)), _) => {
+                record.accepted += 1;
+                Ok((record, total))
+            }
+            (Fault::ForgetsFormer, Ok((record, _)), _) => Ok(afresh(record)),
+            (Fault::NoWidening, Ok((mut record, _)), Ok(mut former)) => {
+                former.windows[commitment.event as usize - 1] =
+                    Window { open: commitment.open, close: commitment.close };
+                record.windows = former.windows;
+                let total = record.ticket.total(&record.windows);
+                Ok((record, total))
+            }
+            (Fault::TotalOfFree, Ok((record, _)), _) => {
+                let windows = record.windows.iter().zip(&record.committed);
+                let free = windows.filter(|(_, &committed)| !committed).map(|(w, _)| (w.close - w.open) as i64);
+                let total = free.sum();
+                Ok((record, total))
+            }
+            (Fault::MiddleTicks, Err(15), Ok(former)) if middles_fit(&former) => {
+                let total = former.ticket.total(&former.windows);
+                Ok((former, total))
+            }
+            (Fault::InsideFirst, Err(12), Ok(former)) => {
+                let window = former.windows[commitment.event as usize - 1];
+                Err(if commitment.close > window.close { 13 } else { 12 })
+            }
+            (_, outcome, _) => outcome,
+        }
+    }
+
+    fn delivered(&self, outcome: impl FnOnce() -> Outcome, out: &mut [u8], scratch: &mut [u32]) -> Answer {
+        match self.fault {
+            Fault::ShortOutput if out.len() < calls::RECORD => {
+                let mut long = vec![0; calls::RECORD];
+                let answer = calls::deliver(outcome, &mut long, scratch);
+                if out.len() < answer.length as usize {
+                    return calls::refused(10);
+                }
+                out[..answer.length as usize].copy_from_slice(&long[..answer.length as usize]);
+                answer
+            }
+            Fault::Silent => {
+                let before = out.to_vec();
+                let answer = calls::deliver(outcome, out, scratch);
+                out.copy_from_slice(&before);
+                answer
+            }
+            Fault::TouchesRest => {
+                let answer = calls::deliver(outcome, out, scratch);
+                if let Some(byte) = out.get_mut(answer.length as usize).filter(|_| answer.number == 0) {
+                    *byte = 0;
+                }
+                answer
+            }
+            Fault::DirtyScratch => {
+                let before = scratch.to_vec();
+                let answer = calls::deliver(outcome, out, scratch);
+                if answer.number != 0 {
+                    scratch.copy_from_slice(&before);
+                }
+                answer
+            }
+            _ => calls::deliver(outcome, out, scratch),
+        }
+    }
+}
+
+/// The record with its free windows planned anew, whatever they were.
+fn afresh(mut record: Record) -> (Record, i64) {
+    let mut ranges = record.ticket.any_windows();
+    for (range, (window, &committed)) in ranges.iter_mut().zip(record.windows.iter().zip(&record.committed)) {
+        if committed {
+            *range = Range { open: (window.open, window.open), close: (window.close, window.close) };
+        }
+    }
+    if let Some(windows) = record.ticket.best(&ranges, Solver::Flow) {
+        record.windows = windows;
+    }
+    let total = record.ticket.total(&record.windows);
+    (record, total)
+}
+
+fn middles_fit(record: &Record) -> bool {
+    let middle = |point: u8| match point {
+        0 => 0,
+        _ => {
+            let window = record.windows[point as usize - 1];
+            (window.open as i64 + window.close as i64) / 2
+        }
+    };
+    record.ticket.rules.iter().all(|r| middle(r.to) - middle(r.from) <= r.bound as i64)
+}
+
+impl Library for Faulty {
+    fn plan_door(&self, ticket: &[u8], out: &mut [u8]) -> u32 {
+        self.delivered(|| self.planned(ticket), out, &mut vec![0; calls::SCRATCH]).number
+    }
+
+    fn commit_door(&self, record: &[u8], commitment: Commitment, out: &mut [u8]) -> u32 {
+        self.delivered(|| self.committed(record, commitment), out, &mut vec![0; calls::SCRATCH]).number
+    }
+
+    fn plan(&self, ticket: &[u8], out: &mut [u8], scratch: &mut [u32]) -> Answer {
+        self.delivered(|| self.planned(ticket), out, scratch)
+    }
+
+    fn commit(&self, record: &[u8], commitment: Commitment, out: &mut [u8], scratch: &mut [u32]) -> Answer {
+        self.delivered(|| self.committed(record, commitment), out, scratch)
+    }
+
+    fn table(&self, horizon: u32, events: u32, rules: &[Rule], out: &mut [i32]) -> u32 {
+        let number = Model.table(horizon, events, rules, out);
+        if self.fault == Fault::TableStops && number == 0 && events >= 3 {
+            let around = |r: &&Rule| r.from as u32 != events && r.to as u32 != events;
+            let fewer: Vec<Rule> = rules.iter().filter(around).copied().collect();
+            let mut without = vec![0; out.len()];
+            Model.table(horizon, events, &fewer, &mut without);
+            let size = events as usize + 1;
+            for i in 0..size - 1 {
+                let row = i * size..i * size + size - 1;
+                out[row.clone()].copy_from_slice(&without[row]);
+            }
+        }
+        number
+    }
+
+    fn rewrite_ticket(&self, ticket: &[u8], out: &mut [u8]) -> (u32, u32) {
+        Model.rewrite_ticket(ticket, out)
+    }
+
+    fn rewrite_record(&self, record: &[u8], out: &mut [u8]) -> (u32, u32) {
+        if self.fault != Fault::AnyCount || out.len() < calls::RECORD {
+            return Model.rewrite_record(record, out);
+        }
+        let mended = with_mended_count(record);
+        match reading::record(&mended).map(|record| writing::record(&record)) {
+            Ok(bytes) => {
+                out[..bytes.len()].copy_from_slice(&bytes);
+                (0, bytes.len() as u32)
+            }
+            Err(number) => (number, 0),
+        }
+    }
+
+    fn write_ticket(&self, loose: &Loose, out: &mut [u8]) -> Option<(u32, u32)> {
+        Model.write_ticket(loose, out)
+    }
+}

@@ -1,0 +1,359 @@
+//! Tickets of several structures and sizes, windows and commitments on them, damaged bytes.
+
+use crate::model::{distances, Commitment, Record, Rule, Ticket, Window};
+use crate::random::Random;
+
+#[derive(Clone, Copy, Debug, PartialEq, Eq)]
+pub enum Structure {
+    /// Rounds of wheel, stage, lamps, camera, database, each after the other within limits.
+    Session,
+    /// Many rules, all kept by one hidden schedule, with little or much room.
+    Hidden,
+    /// Each event after the one before it, within limits.
+    Chain,
+    /// One event before two, these two before a fourth, and so on.
+    Diamonds,
+    /// A ring of rules through all points, of sum -1, 0 or 1.
+    Ring,
+    /// Events in a random order of precedence.
+    Precedence,
+    /// Rules drawn without a plan: most have no schedule when there are many.
+    Drawn,
+    /// Only limits of single events against point 0.
+    Single,
+    /// Bounds and horizon at the ends of their ranges.
+    Ends,
+}
+
+pub const STRUCTURES: [Structure; 9] = [
+    Structure::Session,
+    Structure::Hidden,
+    Structure::Chain,
+    Structure::Diamonds,
+    Structure::Ring,
+    Structure::Precedence,
+    Structure::Drawn,
+    Structure::Single,
+    Structure::Ends,
+];
+
+const MOST_RULES: usize = 256;
+const FARTHEST: i64 = 1_000_000;
+
+/// Rules as they are drawn: bounds are cut to the range, rules past the most are left out.
+struct Rules {
+    list: Vec<Rule>,
+}
+
+impl Rules {
+    fn at_most(&mut self, from: usize, to: usize, bound: i64) {
+        if from != to && self.list.len() < MOST_RULES {
+            let bound = bound.clamp(-FARTHEST, FARTHEST) as i32;
+            self.list.push(Rule { from: from as u8, to: to as u8, bound });
+        }
+    }
+
+    /// `low` to `high` ticks after `from` comes `to`.
+    fn between(&mut self, from: usize, to: usize, low: i64, high: i64) {
+        self.at_most(from, to, high);
+        self.at_most(to, from, -low);
+    }
+}
+
+/// A ticket of this structure with n events and horizon H, rules in random order.
+pub fn ticket(structure: Structure, n: usize, horizon: u32, random: &mut Random) -> Ticket {
+    let mut rules = Rules { list: Vec::new() };
+    let mut horizon = horizon;
+    let h = horizon as i64;
+    match structure {
+        Structure::Session => session(&mut rules, n, h, random),
+        Structure::Hidden => hidden(&mut rules, n, h, random),
+        Structure::Chain => chain(&mut rules, n, h, random),
+        Structure::Diamonds => diamonds(&mut rules, n, h, random),
+        Structure::Ring => ring(&mut rules, n, h, random),
+        Structure::Precedence => precedence(&mut rules, n, h, random),
+        Structure::Drawn => drawn(&mut rules, n, h, random),
+        Structure::Single => single(&mut rules, n, h, random),
+        Structure::Ends => {
+            horizon = random.pick(&[0, 1, 999_999, 1_000_000]);
+            ends(&mut rules, n, random);
+        }
+    }
+    let owners = (0..n).map(|k| owner(structure, k, random)).collect();
+    let order = random.order(rules.list.len());
+    Ticket { horizon, owners, rules: order.into_iter().map(|k| rules.list[k]).collect() }
+}
+
+fn owner(structure: Structure, k: usize, random: &mut Random) -> u8 {
+    match structure {
+        Structure::Session => [1, 3, 2, 0, 4][k % 5],
+        _ => random.below(5) as u8,
+    }
+}
+
+fn session(rules: &mut Rules, n: usize, h: i64, random: &mut Random) {
+    let step = (h / (n as i64 + 1)).max(1);
+    for event in 1..=n {
+        let previous = if event == 1 { 0 } else { event - 1 };
+        let least = random.between(0, step / 2);
+        rules.between(previous, event, least, least + random.between(0, 2 * step));
+        if event > 5 {
+            rules.at_most(event, event - 5, -random.between(0, step));
+        }
+        if event % 5 == 4 {
+            rules.between(event - 1, event, 0, random.between(0, step));
+        }
+        if random.chance(30) {
+            rules.at_most(0, event, random.between(step * event as i64, h.max(step * event as i64)));
+        }
+    }
+    for _ in 0..n {
+        let (i, j) = (random.below(n + 1), random.below(n + 1));
+        rules.at_most(i, j, (j as i64 - i as i64 + 2).max(0) * step * 2);
+    }
+}
+
+fn hidden(rules: &mut Rules, n: usize, h: i64, random: &mut Random) {
+    let times: Vec<i64> = (0..=n).map(|k| if k == 0 { 0 } else { random.between(0, h) }).collect();
+    let room = random.pick(&[0, 1, 3, h / 20, h / 4]);
+    let count = random.pick(&[n, 3 * n, 6 * n, MOST_RULES, MOST_RULES]);
+    for _ in 0..count {
+        let (i, j) = (random.below(n + 1), random.below(n + 1));
+        rules.at_most(i, j, times[j] - times[i] + random.between(0, room));
+    }
+}
+
+fn chain(rules: &mut Rules, n: usize, h: i64, random: &mut Random) {
+    let step = h / (n as i64 + 1);
+    for event in 1..=n {
+        let least = random.between(-step / 4, step);
+        rules.between(event - 1, event, least, least + random.between(0, step.max(1)));
+    }
+    if random.chance(50) {
+        rules.at_most(0, n, random.between(h / 2, h));
+    }
+}
+
+fn diamonds(rules: &mut Rules, n: usize, h: i64, random: &mut Random) {
+    let step = h / (n as i64 / 3 * 2 + 2);
+    let mut top = 0;
+    while top + 3 <= n {
+        let bottom = top + 3;
+        for side in [top + 1, top + 2] {
+            rules.between(top, side, random.between(0, step), step + random.between(0, step));
+            rules.between(side, bottom, random.between(0, step), step + random.between(0, step));
+        }
+        if random.chance(50) {
+            rules.at_most(top, bottom, 2 * step);
+        }
+        top = bottom;
+    }
+    for event in top + 1..=n {
+        rules.at_most(event, top, 0);
+    }
+}
+
+fn ring(rules: &mut Rules, n: usize, h: i64, random: &mut Random) {
+    let mut points = random.order(n + 1);
+    if random.chance(50) {
+        points.sort();
+    }
+    let times: Vec<i64> = (0..=n).map(|k| if k == 0 { 0 } else { random.between(0, h) }).collect();
+    let sum = random.between(-1, 1);
+    let odd = random.below(n + 1);
+    for k in 0..=n {
+        let (i, j) = (points[k], points[(k + 1) % (n + 1)]);
+        rules.at_most(i, j, times[j] - times[i] + if k == odd { sum } else { 0 });
+    }
+    for _ in 0..random.pick(&[0, 0, n, MOST_RULES]) {
+        let (i, j) = (random.below(n + 1), random.below(n + 1));
+        rules.at_most(i, j, times[j] - times[i] + random.between(0, h / 8 + 1));
+    }
+}
+
+fn precedence(rules: &mut Rules, n: usize, h: i64, random: &mut Random) {
+    let order = random.order(n);
+    let longest = h / (n as i64 + 1);
+    let gap = random.pick(&[0, 1, longest]).min(longest);
+    for _ in 0..random.pick(&[n, 2 * n, 5 * n, MOST_RULES]) {
+        let (a, b) = (random.below(n.max(1)), random.below(n.max(1)));
+        if a < b {
+            rules.at_most(order[b] + 1, order[a] + 1, -random.between(0, gap));
+        }
+    }
+}
+
+fn drawn(rules: &mut Rules, n: usize, h: i64, random: &mut Random) {
+    let count = random.pick(&[1, 2, 3, n / 2, n, 2 * n, MOST_RULES]);
+    let shift = random.pick(&[0, h / 4, h / 2]);
+    for _ in 0..count {
+        let (i, j) = (random.below(n + 1), random.below(n + 1));
+        rules.at_most(i, j, random.between(-h, h) + shift);
+    }
+}
+
+fn single(rules: &mut Rules, n: usize, h: i64, random: &mut Random) {
+    for event in 1..=n {
+        let (a, b) = (random.between(0, h), random.between(0, h));
+        rules.between(0, event, a.min(b), a.max(b));
+    }
+}
+
+fn ends(rules: &mut Rules, n: usize, random: &mut Random) {
+    for _ in 0..random.pick(&[1, n, 3 * n, MOST_RULES]) {
+        let (i, j) = (random.below(n + 1), random.below(n + 1));
+        let bound = random.pick(&[FARTHEST, FARTHEST, FARTHEST - 1, 0, 0, 1, -1, -FARTHEST]);
+        rules.at_most(i, j, bound);
+    }
+}
+
+/// At most 4 events over few ticks: every set of windows can be tried.
+pub fn tiny(random: &mut Random) -> Ticket {
+    let (n, horizon) =
+        random.pick(&[(0, 3), (1, 6), (1, 0), (2, 4), (2, 7), (2, 1), (3, 3), (3, 4), (3, 5), (4, 2), (4, 1)]);
+    let structure = random.pick(&STRUCTURES);
+    if structure != Structure::Ends && random.chance(60) {
+        return ticket(structure, n, horizon, random);
+    }
+    let mut rules = Rules { list: Vec::new() };
+    for _ in 0..random.below(2 * n + 3) {
+        let (i, j) = (random.below(n + 1), random.below(n + 1));
+        let h = horizon as i64;
+        rules.at_most(i, j, random.between(-h / 2 - 1, h + 1));
+    }
+    Ticket { horizon, owners: (0..n).map(|_| random.below(5) as u8).collect(), rules: rules.list }
+}
+
+/// Number of events and horizon of a ticket that is not tiny.
+pub fn size(random: &mut Random) -> (usize, u32) {
+    let n = match random.below(10) {
+        0..=1 => 40,
+        2 => random.pick(&[0, 1, 39]),
+        3..=7 => 2 + random.below(11),
+        _ => 2 + random.below(39),
+    };
+    let horizon = random.pick(&[0, 1, 10, 40, 1_000, 36_000, 999_999, 1_000_000, 1_000_000]);
+    (n, horizon)
+}
+
+/// Fit windows that need not be widest: a schedule with each window grown by chance within the rules.
+/// None if the ticket has no schedule.
+pub fn fit_windows(ticket: &Ticket, random: &mut Random) -> Option<Vec<Window>> {
+    let rows = distances::table(ticket)?;
+    let n = ticket.events();
+    // For each i, both D(i, j) - D(i, 0) and D(0, i) - D(j, i) over all j are schedules.
+    let i = random.below(n + 1);
+    let by_row = random.chance(50);
+    let time = |j: usize| if by_row { rows[i][j] - rows[i][0] } else { rows[0][i] - rows[j][i] };
+    let mut windows: Vec<Window> = (1..=n).map(|j| Window { open: time(j) as u32, close: time(j) as u32 }).collect();
+    for k in random.order(n) {
+        if random.chance(60) {
+            let least = least_open(ticket, &windows, k);
+            windows[k].open -= random.between(0, windows[k].open as i64 - least) as u32;
+            let most = most_close(ticket, &windows, k);
+            windows[k].close += random.between(0, most - windows[k].close as i64) as u32;
+        }
+    }
+    Some(windows)
+}
+
+fn least_open(ticket: &Ticket, windows: &[Window], k: usize) -> i64 {
+    let rules = ticket.rules.iter().filter(|r| r.from as usize == k + 1);
+    let close = |point: u8| if point == 0 { 0 } else { windows[point as usize - 1].close as i64 };
+    rules.map(|r| close(r.to) - r.bound as i64).fold(0, i64::max)
+}
+
+fn most_close(ticket: &Ticket, windows: &[Window], k: usize) -> i64 {
+    let rules = ticket.rules.iter().filter(|r| r.to as usize == k + 1);
+    let open = |point: u8| if point == 0 { 0 } else { windows[point as usize - 1].open as i64 };
+    rules.map(|r| open(r.from) + r.bound as i64).fold(ticket.horizon as i64, i64::min)
+}
+
+/// A record that no planning made: fit windows and any flags, or, by chance, windows that are not fit.
+pub fn foreign_record(ticket: Ticket, random: &mut Random) -> Record {
+    let h = ticket.horizon as i64;
+    let n = ticket.events();
+    let fit = if random.chance(85) { fit_windows(&ticket, random) } else { None };
+    let mut windows = fit.unwrap_or_else(|| {
+        let pairs = (0..n).map(|_| (random.between(0, h) as u32, random.between(0, h) as u32));
+        pairs.map(|(a, b)| Window { open: a.min(b), close: a.max(b) }).collect()
+    });
+    if n > 0 && random.chance(15) {
+        // One tick more at one end: often one too many.
+        let window = &mut windows[random.below(n)];
+        if random.chance(50) {
+            window.open = window.open.saturating_sub(1);
+        } else {
+            window.close = (window.close + 1).min(h as u32);
+        }
+    }
+    let share = random.pick(&[0, 0, 30, 80]);
+    let committed: Vec<bool> = (0..n).map(|_| random.chance(share)).collect();
+    let accepted = committed.iter().filter(|&&flag| flag).count() as u16;
+    Record { ticket, committed, windows, accepted }
+}
+
+/// A commitment that may be accepted: a free event, if there is one, and a window inside its own.
+pub fn commitment(record: &Record, random: &mut Random) -> Commitment {
+    let free: Vec<usize> = (0..record.windows.len()).filter(|&k| !record.committed[k]).collect();
+    if free.is_empty() {
+        return refused_commitment(record, random);
+    }
+    let k = random.pick(&free);
+    let (open, close) = (record.windows[k].open as i64, record.windows[k].close as i64);
+    let (a, b) = match random.below(6) {
+        0 => (open, close),
+        1 => (open, open),
+        2 => (close, close),
+        3 => ((open + close) / 2, (open + close) / 2),
+        _ => (random.between(open, close), random.between(open, close)),
+    };
+    Commitment { event: k as u32 + 1, open: a.min(b) as u32, close: a.max(b) as u32 }
+}
+
+/// A commitment with something wrong: event, open or close.
+pub fn refused_commitment(record: &Record, random: &mut Random) -> Commitment {
+    let n = record.windows.len() as u32;
+    if n == 0 || random.chance(30) {
+        let event = random.pick(&[0, n + 1, n + 2, 255, 256, 65_536, u32::MAX]);
+        return Commitment { event, open: random.pick(&[0, 1, u32::MAX]), close: random.pick(&[0, 1, u32::MAX]) };
+    }
+    let event = 1 + random.below(n as usize) as u32;
+    let Window { open, close } = record.windows[event as usize - 1];
+    let (open, close) = match random.below(6) {
+        0 => (open.wrapping_sub(1), close),
+        1 => (open, close + 1),
+        2 => (close + 1, close),
+        3 => (close, open),
+        4 => (open, u32::MAX),
+        _ => (random.next() as u32, random.next() as u32),
+    };
+    Commitment { event, open, close }
+}
+
+/// Bytes with a few of them changed, cut off or added.
+pub fn damaged(bytes: &[u8], random: &mut Random) -> Vec<u8> {
+    let mut bytes = bytes.to_vec();
+    for _ in 0..1 + random.below(3) {
+        match random.below(8) {
+            0 => bytes.truncate(random.below(bytes.len() + 1)),
+            1 => bytes.extend((0..1 + random.below(12)).map(|k| k as u8)),
+            2 if !bytes.is_empty() => {
+                bytes.remove(random.below(bytes.len()));
+            }
+            3 => bytes.insert(random.below(bytes.len() + 1), random.next() as u8),
+            _ if !bytes.is_empty() => {
+                let at = random.below(bytes.len());
+                let old = bytes[at];
+                bytes[at] = match random.below(4) {
+                    0 => random.next() as u8,
+                    1 => old.wrapping_add(1),
+                    2 => old.wrapping_sub(1),
+                    _ => random.pick(&[0, 1, 5, 0x7f, 0x80, 0xff]),
+                };
+            }
+            _ => {}
+        }
+    }
+    bytes
+}

@@ -1,0 +1,68 @@
+//! The functions under test, behind one trait: the linked library, or the model standing in for it.
+
+use crate::model::calls::{self, Answer, Loose, Outcome};
+use crate::model::{Commitment, Rule, Solver};
+
+pub trait Library: Sync {
+    /// The two C doors: the refusal number only.
+    fn plan_door(&self, ticket: &[u8], out: &mut [u8]) -> u32;
+    fn commit_door(&self, record: &[u8], commitment: Commitment, out: &mut [u8]) -> u32;
+
+    /// Planning and commitment with lent scratch.
+    fn plan(&self, ticket: &[u8], out: &mut [u8], scratch: &mut [u32]) -> Answer;
+    fn commit(&self, record: &[u8], commitment: Commitment, out: &mut [u8], scratch: &mut [u32]) -> Answer;
+
+    fn table(&self, horizon: u32, events: u32, rules: &[Rule], out: &mut [i32]) -> u32;
+
+    /// Reading and then writing: number and length.
+    fn rewrite_ticket(&self, ticket: &[u8], out: &mut [u8]) -> (u32, u32);
+    fn rewrite_record(&self, record: &[u8], out: &mut [u8]) -> (u32, u32);
+
+    /// Writing a ticket of any values; none where the library has no such export.
+    fn write_ticket(&self, loose: &Loose, out: &mut [u8]) -> Option<(u32, u32)>;
+}
+
+/// The model as a library. A faulty library overrides `planned`, `committed` and the rest.
+pub struct Model;
+
+pub fn planned(ticket: &[u8]) -> Outcome {
+    calls::plan(ticket, Solver::Flow)
+}
+
+pub fn committed(record: &[u8], commitment: Commitment) -> Outcome {
+    calls::commit(record, commitment, Solver::Flow)
+}
+
+impl Library for Model {
+    fn plan_door(&self, ticket: &[u8], out: &mut [u8]) -> u32 {
+        calls::deliver(|| planned(ticket), out, &mut vec![0; calls::SCRATCH]).number
+    }
+
+    fn commit_door(&self, record: &[u8], commitment: Commitment, out: &mut [u8]) -> u32 {
+        calls::deliver(|| committed(record, commitment), out, &mut vec![0; calls::SCRATCH]).number
+    }
+
+    fn plan(&self, ticket: &[u8], out: &mut [u8], scratch: &mut [u32]) -> Answer {
+        calls::deliver(|| planned(ticket), out, scratch)
+    }
+
+    fn commit(&self, record: &[u8], commitment: Commitment, out: &mut [u8], scratch: &mut [u32]) -> Answer {
+        calls::deliver(|| committed(record, commitment), out, scratch)
+    }
+
+    fn table(&self, horizon: u32, events: u32, rules: &[Rule], out: &mut [i32]) -> u32 {
+        calls::table(horizon, events, rules, out, Solver::Flow)
+    }
+
+    fn rewrite_ticket(&self, ticket: &[u8], out: &mut [u8]) -> (u32, u32) {
+        calls::rewrite_ticket(ticket, out)
+    }
+
+    fn rewrite_record(&self, record: &[u8], out: &mut [u8]) -> (u32, u32) {
+        calls::rewrite_record(record, out)
+    }
+
+    fn write_ticket(&self, loose: &Loose, out: &mut [u8]) -> Option<(u32, u32)> {
+        Some(calls::write_ticket(loose, out))
+    }
+}

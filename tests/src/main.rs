@@ -1,0 +1,266 @@
+//! Compares the library with another implementation of document 01. See docs/TESTING.md.
+
+mod cases;
+mod faults;
+mod generate;
+mod lent;
+mod library;
+#[cfg(linked)]
+mod linked;
+mod model;
+mod random;
+mod solvers;
+mod stored;
+mod trial;
+
+use cases::{Kind, KINDS};
+use faults::{Faulty, FAULTS};
+use library::Library;
+use std::sync::atomic::{AtomicU64, Ordering};
+use std::sync::Mutex;
+use std::time::Instant;
+use trial::Report;
+
+/// How many seeds of each kind the quick part tries.
+const QUICK: [(Kind, u64); 8] = [
+    (Kind::Tiny, 4_000),
+    (Kind::Structures, 3_600),
+    (Kind::Runs, 150),
+    (Kind::Foreign, 5_000),
+    (Kind::Damaged, 5_000),
+    (Kind::Prefixes, 60),
+    (Kind::Lengths, 12),
+    (Kind::Values, 4_000),
+];
+
+const USAGE: &str = "\
+tests/run quick                      stored cases and some thousand seeds: the gate's part
+tests/run long SEED COUNT [THREADS]  seeds from SEED on until COUNT calls are made
+tests/run one KIND SEED              one case: tiny structures runs foreign damaged prefixes lengths values
+tests/run solvers SEED COUNT         the two solvers of the model against each other
+tests/run self-check                 libraries with a planted fault: each has to be caught";
+
+#[cfg(linked)]
+fn library() -> &'static dyn Library {
+    &linked::Linked
+}
+
+#[cfg(not(linked))]
+fn library() -> &'static dyn Library {
+    println!("no library is linked: the model stands in for it");
+    &library::Model
+}
+
+/// Cases of a part, its calls, and these by the number answered and by kind.
+#[derive(Default)]
+struct Tally {
+    passed: u64,
+    failed: u64,
+    calls: u64,
+    numbers: [u64; 16],
+    kinds: [u64; KINDS.len()],
+}
+
+impl Tally {
+    fn add(&mut self, name: &str, report: Report) {
+        self.calls += report.calls;
+        for (sum, count) in self.numbers.iter_mut().zip(report.numbers) {
+            *sum += count;
+        }
+        if report.differences.is_empty() {
+            self.passed += 1;
+            return;
+        }
+        self.failed += 1;
+        if self.failed <= 5 {
+            for difference in report.differences.iter().take(3) {
+                println!("DIFFERENCE in {name}: {difference}");
+            }
+        }
+    }
+
+    fn join(&mut self, other: Tally) {
+        self.passed += other.passed;
+        self.failed += other.failed;
+        self.calls += other.calls;
+        for (sum, count) in self.numbers.iter_mut().zip(other.numbers) {
+            *sum += count;
+        }
+        for (sum, count) in self.kinds.iter_mut().zip(other.kinds) {
+            *sum += count;
+        }
+    }
+
+    /// How many calls were answered with 0, 1, .., 15.
+    fn numbers_line(&self) -> String {
+        let counts = self.numbers.iter().enumerate().map(|(number, count)| format!("{number}: {count}"));
+        format!("calls by number: {}", counts.collect::<Vec<_>>().join(", "))
+    }
+
+    fn kinds_line(&self) -> String {
+        let counts = KINDS.iter().zip(self.kinds).map(|(kind, count)| format!("{}: {count}", kind.name()));
+        format!("calls by kind: {}", counts.collect::<Vec<_>>().join(", "))
+    }
+
+    fn last_line(&self) -> i32 {
+        println!("{} passed, {} failed", self.passed, self.failed);
+        (self.failed > 0) as i32
+    }
+}
+
+/// Runs the cases of `seeds`, each of the kind that `kind` gives, on some threads.
+fn try_seeds(
+    library: &dyn Library,
+    seeds: std::ops::Range<u64>,
+    threads: usize,
+    kind: impl Fn(u64) -> Kind + Sync,
+) -> Tally {
+    let next = AtomicU64::new(seeds.start);
+    let tally = Mutex::new(Tally::default());
+    std::thread::scope(|scope| {
+        for _ in 0..threads {
+            scope.spawn(|| loop {
+                let seed = next.fetch_add(1, Ordering::Relaxed);
+                if seed >= seeds.end {
+                    return;
+                }
+                let result = cases::run(kind(seed), seed, library);
+                let name = format!("one {} {seed}", kind(seed).name());
+                let mut tally = tally.lock().unwrap();
+                tally.kinds[kind(seed) as usize] += result.calls;
+                tally.add(&name, result);
+            });
+        }
+    });
+    tally.into_inner().unwrap()
+}
+
+fn stored_cases(library: &dyn Library) -> Tally {
+    let mut tally = Tally::default();
+    for case in &stored::CASES {
+        tally.add(case.0, stored::run(case, library));
+    }
+    tally
+}
+
+fn quick(library: &dyn Library) -> i32 {
+    let start = Instant::now();
+    let mut all = stored_cases(library);
+    println!("stored cases: {} calls", all.calls);
+    let (agreed, differences) = solvers::compare(1, 1_500);
+    println!("solvers of the model: {agreed} tickets and records");
+    all.add("solvers", Report { differences, ..Report::default() });
+    for (kind, count) in QUICK {
+        let tally = try_seeds(library, 1..count + 1, 2, |_| kind);
+        println!("{}: {} cases, {} calls, {} failed", kind.name(), count, tally.calls, tally.failed);
+        all.join(tally);
+    }
+    println!("{}", all.numbers_line());
+    let unseen: Vec<String> =
+        (0..16).filter(|&n| all.numbers[n] == 0).map(|n| format!("no call is answered {n}")).collect();
+    all.add("numbers", Report { differences: unseen, ..Report::default() });
+    println!("{} calls in {:.1} s", all.calls, start.elapsed().as_secs_f64());
+    all.last_line()
+}
+
+/// Blocks of seeds until enough calls are made; after each block a line to go on from.
+fn long(library: &dyn Library, seed: u64, count: u64, threads: usize) -> i32 {
+    const BLOCK: u64 = 5_000;
+    let start = Instant::now();
+    let mut all = Tally::default();
+    let mut next = seed;
+    while all.calls < count && all.failed == 0 {
+        all.join(try_seeds(library, next..next + BLOCK, threads, Kind::at));
+        next += BLOCK;
+        let left = count.saturating_sub(all.calls);
+        let seconds = start.elapsed().as_secs_f64();
+        println!(
+            "{} calls, {} failed, {seconds:.0} s; go on with: tests/run long {next} {left}",
+            all.calls, all.failed
+        );
+    }
+    println!("{}", all.kinds_line());
+    println!("{}", all.numbers_line());
+    println!("seeds {seed} to {}: {} calls, {} differences", next - 1, all.calls, all.failed);
+    all.last_line()
+}
+
+/// How the quick part finds each planted fault: the kinds of cases that show it.
+fn self_check() -> i32 {
+    let mut all = Tally::default();
+    for fault in FAULTS {
+        let library = Faulty { fault };
+        let mut caught: Vec<String> = Vec::new();
+        for case in &stored::CASES {
+            if !stored::run(case, &library).differences.is_empty() {
+                caught.push(format!("\"{}\"", case.0));
+                break;
+            }
+        }
+        for kind in KINDS {
+            let seeds = QUICK.iter().find(|(k, _)| *k == kind).map_or(0, |(_, count)| *count).min(300);
+            let first = (1..=seeds).find(|&seed| !cases::run(kind, seed, &library).differences.is_empty());
+            if let Some(seed) = first {
+                caught.push(format!("{} {seed}", kind.name()));
+            }
+        }
+        println!("{fault:?}: {}", if caught.is_empty() { "NOT CAUGHT".to_string() } else { caught.join(", ") });
+        all.passed += !caught.is_empty() as u64;
+        all.failed += caught.is_empty() as u64;
+    }
+    let sound = try_seeds(&library::Model, 1..101, 2, Kind::at);
+    println!("the model itself: {} of 100 seeds differ", sound.failed);
+    all.failed += (sound.failed > 0) as u64;
+    all.last_line()
+}
+
+fn one(library: &dyn Library, kind: &str, seed: u64) -> i32 {
+    let Some(kind) = Kind::named(kind) else {
+        println!("{USAGE}");
+        return 2;
+    };
+    let report = cases::run(kind, seed, library);
+    for difference in &report.differences {
+        println!("DIFFERENCE: {difference}");
+    }
+    let mut all = Tally::default();
+    all.add(kind.name(), report);
+    println!("{} {seed}: {} calls", kind.name(), all.calls);
+    println!("{}", all.numbers_line());
+    all.last_line()
+}
+
+fn compare_solvers(seed: u64, count: u64) -> i32 {
+    let mut all = Tally::default();
+    let (agreed, differences) = solvers::compare(seed, count);
+    println!("{agreed} tickets and records by both solvers");
+    all.add("solvers", Report { differences, ..Report::default() });
+    all.last_line()
+}
+
+fn main() {
+    let words: Vec<String> = std::env::args().skip(1).collect();
+    let words: Vec<&str> = words.iter().map(String::as_str).collect();
+    let number = |word: &str| word.replace(['_', ','], "").parse::<u64>().ok();
+    let status = match words[..] {
+        ["quick"] => quick(library()),
+        ["self-check" | "--self-check"] => self_check(),
+        ["long", seed, count] | ["long", seed, count, _] => match (number(seed), number(count)) {
+            (Some(seed), Some(count)) => {
+                let threads = words.get(3).and_then(|word| word.parse().ok()).unwrap_or(2);
+                long(library(), seed, count, threads)
+            }
+            _ => 2,
+        },
+        ["one", kind, seed] => number(seed).map_or(2, |seed| one(library(), kind, seed)),
+        ["solvers", seed, count] => match (number(seed), number(count)) {
+            (Some(seed), Some(count)) => compare_solvers(seed, count),
+            _ => 2,
+        },
+        _ => 2,
+    };
+    if status == 2 {
+        println!("{USAGE}");
+    }
+    std::process::exit(status);
+}

@@ -1,0 +1,168 @@
+//! The calls: what is answered and written, from everything that is lent.
+
+use super::{distances, exhaustive, reading, writing, Commitment, Record, Rule, Solver, Ticket};
+
+/// Least sizes: bytes of a ticket's and a record's output, numbers of scratch, numbers of a table.
+pub const TICKET: usize = 1_584;
+pub const RECORD: usize = 1_948;
+pub const SCRATCH: usize = 8_192;
+pub const TABLE: usize = 1_681;
+
+/// Number, length and total; the last two are 0 on a refusal.
+#[derive(Clone, Copy, Debug, PartialEq, Eq)]
+pub struct Answer {
+    pub number: u32,
+    pub length: u32,
+    pub total: u32,
+}
+
+/// A refusal number, or the record written and its total.
+pub type Outcome = Result<(Record, i64), u32>;
+
+pub fn refused(number: u32) -> Answer {
+    Answer { number, length: 0, total: 0 }
+}
+
+/// Rule by rule on the ends of windows; for tiny tickets choice by choice.
+fn fit(record: &Record, solver: Solver) -> bool {
+    if solver == Solver::Exhaustive {
+        return exhaustive::fit(&record.ticket, &record.windows);
+    }
+    let close = |point: u8| if point == 0 { 0 } else { record.windows[point as usize - 1].close as i64 };
+    let open = |point: u8| if point == 0 { 0 } else { record.windows[point as usize - 1].open as i64 };
+    record.ticket.rules.iter().all(|r| close(r.to) - open(r.from) <= r.bound as i64)
+}
+
+/// Planning of a ticket's bytes, once output and scratch are long enough.
+pub fn plan(bytes: &[u8], solver: Solver) -> Outcome {
+    let ticket = reading::ticket(bytes)?;
+    if solver == Solver::Flow && !distances::has_schedule(&ticket) {
+        return Err(9);
+    }
+    let windows = ticket.best(&ticket.any_windows(), solver).ok_or(9u32)?;
+    let total = ticket.total(&windows);
+    Ok((Record::new(ticket, windows), total))
+}
+
+/// A commitment on a record's bytes, once output and scratch are long enough.
+pub fn commit(bytes: &[u8], commitment: Commitment, solver: Solver) -> Outcome {
+    let mut record = reading::record(bytes)?;
+    if !fit(&record, solver) {
+        return Err(15);
+    }
+    if commitment.event == 0 || commitment.event as usize > record.windows.len() {
+        return Err(11);
+    }
+    let place = commitment.event as usize - 1;
+    if record.committed[place] {
+        return Err(12);
+    }
+    let window = record.windows[place];
+    if !(window.open <= commitment.open && commitment.open <= commitment.close && commitment.close <= window.close) {
+        return Err(13);
+    }
+    let ranges = record.ranges_after(commitment);
+    record.windows = record.ticket.best(&ranges, solver).expect("the record's own windows are in the ranges");
+    record.committed[place] = true;
+    record.accepted += 1;
+    let total = record.ticket.total(&record.windows);
+    Ok((record, total))
+}
+
+/// Writes an outcome to a lent output and clears the scratch, as planning and commitment do.
+pub fn deliver(outcome: impl FnOnce() -> Outcome, out: &mut [u8], scratch: &mut [u32]) -> Answer {
+    if out.len() < RECORD || scratch.len() < SCRATCH {
+        return refused(10);
+    }
+    scratch[..SCRATCH].fill(0);
+    match outcome() {
+        Err(number) => refused(number),
+        Ok((record, total)) => {
+            let bytes = writing::record(&record);
+            out[..bytes.len()].copy_from_slice(&bytes);
+            Answer { number: 0, length: bytes.len() as u32, total: total as u32 }
+        }
+    }
+}
+
+/// The ticket that a table is asked for, owners left out; or 2, 3, 5, 6, 7.
+pub fn table_request(horizon: u32, events: u32, rules: &[Rule]) -> Result<Ticket, u32> {
+    reading::horizon_in_range(horizon)?;
+    reading::events_in_range(events)?;
+    reading::rules_in_range(rules.len() as u32)?;
+    for rule in rules {
+        reading::rule_in_range(rule, events as usize)?;
+    }
+    Ok(Ticket { horizon, owners: vec![0; events as usize], rules: rules.to_vec() })
+}
+
+/// The table's number; the rows are written one after another.
+pub fn table(horizon: u32, events: u32, rules: &[Rule], out: &mut [i32], solver: Solver) -> u32 {
+    if out.len() < TABLE {
+        return 10;
+    }
+    let ticket = match table_request(horizon, events, rules) {
+        Ok(ticket) => ticket,
+        Err(number) => return number,
+    };
+    let rows = match solver {
+        Solver::Exhaustive => exhaustive::table(&ticket),
+        Solver::Flow => distances::table(&ticket),
+    };
+    let Some(rows) = rows else { return 9 };
+    for (place, entry) in out.iter_mut().zip(rows.into_iter().flatten()) {
+        *place = entry as i32;
+    }
+    0
+}
+
+/// Reads a ticket and writes it again: number and length.
+pub fn rewrite_ticket(bytes: &[u8], out: &mut [u8]) -> (u32, u32) {
+    rewrite(out, TICKET, || reading::ticket(bytes).map(|ticket| writing::ticket(&ticket)))
+}
+
+/// Reads a record and writes it again: number and length.
+pub fn rewrite_record(bytes: &[u8], out: &mut [u8]) -> (u32, u32) {
+    rewrite(out, RECORD, || reading::record(bytes).map(|record| writing::record(&record)))
+}
+
+fn rewrite(out: &mut [u8], least: usize, written: impl FnOnce() -> Result<Vec<u8>, u32>) -> (u32, u32) {
+    if out.len() < least {
+        return (10, 0);
+    }
+    match written() {
+        Err(number) => (number, 0),
+        Ok(bytes) => {
+            out[..bytes.len()].copy_from_slice(&bytes);
+            (0, bytes.len() as u32)
+        }
+    }
+}
+
+/// A ticket as a caller of writing may hand it over: counts of any value over arrays of fixed size.
+#[derive(Clone, Debug)]
+pub struct Loose {
+    pub horizon: u32,
+    pub events: u32,
+    pub owners: [u8; 40],
+    pub rules: u32,
+    pub from: [u8; 256],
+    pub to: [u8; 256],
+    pub bound: [i32; 256],
+}
+
+/// Writing of such a ticket: 10, then 2 to 7 as reading gives them.
+pub fn write_ticket(loose: &Loose, out: &mut [u8]) -> (u32, u32) {
+    rewrite(out, TICKET, || {
+        reading::horizon_in_range(loose.horizon)?;
+        reading::events_in_range(loose.events)?;
+        let owners = loose.owners[..loose.events as usize].to_vec();
+        owners.iter().try_for_each(|&owner| reading::owner_in_range(owner))?;
+        reading::rules_in_range(loose.rules)?;
+        let places = 0..loose.rules as usize;
+        let rules: Vec<Rule> =
+            places.map(|k| Rule { from: loose.from[k], to: loose.to[k], bound: loose.bound[k] }).collect();
+        rules.iter().try_for_each(|rule| reading::rule_in_range(rule, owners.len()))?;
+        Ok(writing::ticket(&Ticket { horizon: loose.horizon, owners, rules }))
+    })
+}

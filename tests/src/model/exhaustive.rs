@@ -1,0 +1,121 @@
+//! The definitions of 01 by enumeration, for tiny tickets: every schedule, every set of windows,
+//! every choice of one tick in each window.
+
+use super::{Range, Ticket, Window};
+
+/// Which lists of n ticks in 0 to H are schedules; the list (t1, .., tn) is the number with these digits.
+struct Schedules {
+    ticks: usize,
+    is_schedule: Vec<bool>,
+}
+
+impl Schedules {
+    fn of(ticket: &Ticket) -> Schedules {
+        let ticks = ticket.horizon as usize + 1;
+        let count = ticks.pow(ticket.events() as u32);
+        let is_schedule = (0..count).map(|code| keeps_rules(ticket, &times(code, ticks, ticket.events())));
+        Schedules { ticks, is_schedule: is_schedule.collect() }
+    }
+
+    /// Whether every choice of one tick in each window, the first ticks given by `code`, is a schedule.
+    fn all_choices(&self, windows: &[Window], code: usize) -> bool {
+        match windows.split_first() {
+            None => self.is_schedule[code],
+            Some((window, rest)) => {
+                (window.open..=window.close).all(|tick| self.all_choices(rest, code * self.ticks + tick as usize))
+            }
+        }
+    }
+}
+
+/// Point 0 at 0, then the digits of `code`.
+fn times(mut code: usize, ticks: usize, events: usize) -> Vec<i64> {
+    let mut times = vec![0; events + 1];
+    for event in (1..=events).rev() {
+        times[event] = (code % ticks) as i64;
+        code /= ticks;
+    }
+    times
+}
+
+fn keeps_rules(ticket: &Ticket, times: &[i64]) -> bool {
+    ticket.rules.iter().all(|r| times[r.to as usize] - times[r.from as usize] <= r.bound as i64)
+}
+
+/// Whether the windows are fit, by trying every choice.
+pub fn fit(ticket: &Ticket, windows: &[Window]) -> bool {
+    Schedules::of(ticket).all_choices(windows, 0)
+}
+
+/// The largest time of j minus time of i over all schedules; none if there is no schedule.
+pub fn table(ticket: &Ticket) -> Option<Vec<Vec<i64>>> {
+    let schedules = Schedules::of(ticket);
+    let points = ticket.events() + 1;
+    let mut largest: Option<Vec<Vec<i64>>> = None;
+    for code in (0..schedules.is_schedule.len()).filter(|&code| schedules.is_schedule[code]) {
+        let times = times(code, schedules.ticks, ticket.events());
+        let table = largest.get_or_insert_with(|| vec![vec![i64::MIN; points]; points]);
+        for (i, row) in table.iter_mut().enumerate() {
+            for (j, entry) in row.iter_mut().enumerate() {
+                *entry = (*entry).max(times[j] - times[i]);
+            }
+        }
+    }
+    largest
+}
+
+/// Every window within a range.
+fn windows_within(range: &Range) -> Vec<Window> {
+    let opens = range.open.0..=range.open.1;
+    let pairs = opens.flat_map(|open| (range.close.0..=range.close.1).map(move |close| Window { open, close }));
+    pairs.filter(|w| w.open <= w.close).collect()
+}
+
+/// Of all fit sets within the ranges the widest ones: their total, and the least open and close of each event.
+struct Widest {
+    total: i64,
+    least: Option<Vec<Window>>,
+}
+
+impl Widest {
+    fn add(&mut self, total: i64, windows: &[Window]) {
+        match &mut self.least {
+            Some(least) if total == self.total => {
+                for (kept, window) in least.iter_mut().zip(windows) {
+                    kept.open = kept.open.min(window.open);
+                    kept.close = kept.close.min(window.close);
+                }
+            }
+            _ => {
+                self.total = total;
+                self.least = Some(windows.to_vec());
+            }
+        }
+    }
+}
+
+/// The widest and then earliest fit set within the ranges.
+pub fn best(ticket: &Ticket, ranges: &[Range]) -> Option<Vec<Window>> {
+    let schedules = Schedules::of(ticket);
+    let choices: Vec<Vec<Window>> = ranges.iter().map(windows_within).collect();
+    let mut widest = Widest { total: -1, least: None };
+    let mut place = vec![0; choices.len()];
+    if choices.iter().any(|list| list.is_empty()) {
+        return None;
+    }
+    loop {
+        let windows: Vec<Window> = choices.iter().zip(&place).map(|(list, &k)| list[k]).collect();
+        let total = ticket.total(&windows);
+        if total >= widest.total && schedules.all_choices(&windows, 0) {
+            widest.add(total, &windows);
+        }
+        let Some(step) = (0..place.len()).find(|&k| place[k] + 1 < choices[k].len()) else {
+            break;
+        };
+        place[step] += 1;
+        place[..step].fill(0);
+    }
+    let least = widest.least?;
+    assert!(schedules.all_choices(&least, 0) && ticket.total(&least) == widest.total, "no earliest set");
+    Some(least)
+}

@@ -1,0 +1,122 @@
+//! Document 01 once more, written from its text alone: what each call answers and writes.
+//! It shares nothing with the library; sizes of cases decide between two ways to find windows.
+
+pub mod calls;
+pub mod distances;
+pub mod exhaustive;
+pub mod flow;
+pub mod reading;
+pub mod writing;
+
+/// "Time of `to` minus time of `from` is at most `bound`."
+#[derive(Clone, Copy, Debug, PartialEq, Eq)]
+pub struct Rule {
+    pub from: u8,
+    pub to: u8,
+    pub bound: i32,
+}
+
+#[derive(Clone, Debug, PartialEq, Eq)]
+pub struct Ticket {
+    pub horizon: u32,
+    pub owners: Vec<u8>,
+    pub rules: Vec<Rule>,
+}
+
+#[derive(Clone, Copy, Debug, PartialEq, Eq)]
+pub struct Window {
+    pub open: u32,
+    pub close: u32,
+}
+
+#[derive(Clone, Debug, PartialEq, Eq)]
+pub struct Record {
+    pub ticket: Ticket,
+    pub committed: Vec<bool>,
+    pub windows: Vec<Window>,
+    pub accepted: u16,
+}
+
+/// An event (1 to n) and the window it commits to.
+#[derive(Clone, Copy, Debug, PartialEq, Eq)]
+pub struct Commitment {
+    pub event: u32,
+    pub open: u32,
+    pub close: u32,
+}
+
+/// What a window may be in a new plan: low and high end of its open, and of its close.
+#[derive(Clone, Copy, Debug, PartialEq, Eq)]
+pub struct Range {
+    pub open: (u32, u32),
+    pub close: (u32, u32),
+}
+
+/// How the windows are found.
+#[derive(Clone, Copy, Debug, PartialEq, Eq)]
+pub enum Solver {
+    Exhaustive,
+    Flow,
+}
+
+/// What a tick of width counts, by owner.
+pub const WORTH: [i64; 5] = [1, 1, 1, 1, 1];
+
+impl Ticket {
+    pub fn events(&self) -> usize {
+        self.owners.len()
+    }
+
+    /// The rules and the two that are not written for each event: 0 to i: H, i to 0: 0.
+    pub fn all_rules(&self) -> Vec<(usize, usize, i64)> {
+        let written = self.rules.iter().map(|r| (r.from as usize, r.to as usize, r.bound as i64));
+        let mut rules: Vec<(usize, usize, i64)> = written.collect();
+        for event in 1..=self.events() {
+            rules.push((0, event, self.horizon as i64));
+            rules.push((event, 0, 0));
+        }
+        rules
+    }
+
+    /// Any window with open and close in 0 to H, for each event.
+    pub fn any_windows(&self) -> Vec<Range> {
+        let all = (0, self.horizon);
+        vec![Range { open: all, close: all }; self.events()]
+    }
+
+    pub fn total(&self, windows: &[Window]) -> i64 {
+        let widths = windows.iter().map(|w| w.close as i64 - w.open as i64);
+        self.owners.iter().zip(widths).map(|(&owner, width)| WORTH[owner as usize] * width).sum()
+    }
+
+    /// The fit set of windows within `ranges` that is widest and then earliest; none if none is fit.
+    pub fn best(&self, ranges: &[Range], solver: Solver) -> Option<Vec<Window>> {
+        match solver {
+            Solver::Exhaustive => exhaustive::best(self, ranges),
+            Solver::Flow => flow::best(self, ranges),
+        }
+    }
+}
+
+impl Record {
+    /// A record with every event free.
+    pub fn new(ticket: Ticket, windows: Vec<Window>) -> Record {
+        Record { committed: vec![false; windows.len()], ticket, windows, accepted: 0 }
+    }
+
+    /// What each window may be after an event commits: committed ones stay, free ones keep all they had.
+    pub fn ranges_after(&self, commitment: Commitment) -> Vec<Range> {
+        let fixed = |w: &Window| Range { open: (w.open, w.open), close: (w.close, w.close) };
+        let mut ranges: Vec<Range> = Vec::new();
+        for (window, &committed) in self.windows.iter().zip(&self.committed) {
+            ranges.push(if committed {
+                fixed(window)
+            } else {
+                Range { open: (0, window.open), close: (window.close, self.ticket.horizon) }
+            });
+        }
+        let named = Window { open: commitment.open, close: commitment.close };
+        ranges[commitment.event as usize - 1] = fixed(&named);
+        ranges
+    }
+}

@@ -1,0 +1,108 @@
+//! Bytes to tickets and records: field by field in byte order, presence before value.
+
+use super::{Record, Rule, Ticket, Window};
+
+struct Fields<'a> {
+    bytes: &'a [u8],
+}
+
+impl<'a> Fields<'a> {
+    /// The next field of `size` bytes; 1 if the bytes end inside it.
+    fn take(&mut self, size: usize) -> Result<&'a [u8], u32> {
+        if self.bytes.len() < size {
+            return Err(1);
+        }
+        let (field, rest) = self.bytes.split_at(size);
+        self.bytes = rest;
+        Ok(field)
+    }
+
+    fn number(&mut self, size: usize) -> Result<u32, u32> {
+        Ok(little_endian(self.take(size)?))
+    }
+}
+
+fn little_endian(field: &[u8]) -> u32 {
+    field.iter().rev().fold(0, |value, &byte| value * 256 + byte as u32)
+}
+
+fn require(condition: bool, number: u32) -> Result<(), u32> {
+    if condition {
+        Ok(())
+    } else {
+        Err(number)
+    }
+}
+
+pub fn horizon_in_range(horizon: u32) -> Result<(), u32> {
+    require(horizon <= 1_000_000, 2)
+}
+
+pub fn events_in_range(events: u32) -> Result<(), u32> {
+    require(events <= 40, 3)
+}
+
+pub fn owner_in_range(owner: u8) -> Result<(), u32> {
+    require(owner <= 4, 4)
+}
+
+pub fn rules_in_range(rules: u32) -> Result<(), u32> {
+    require(rules <= 256, 5)
+}
+
+pub fn rule_in_range(rule: &Rule, events: usize) -> Result<(), u32> {
+    let points = rule.from as usize <= events && rule.to as usize <= events && rule.from != rule.to;
+    require(points, 6)?;
+    require((-1_000_000..=1_000_000).contains(&rule.bound), 7)
+}
+
+fn ticket_fields(fields: &mut Fields) -> Result<Ticket, u32> {
+    let horizon = fields.number(4)?;
+    horizon_in_range(horizon)?;
+    let events = fields.number(2)?;
+    events_in_range(events)?;
+    let mut owners = Vec::new();
+    for _ in 0..events {
+        let owner = fields.take(1)?[0];
+        owner_in_range(owner)?;
+        owners.push(owner);
+    }
+    let count = fields.number(2)?;
+    rules_in_range(count)?;
+    let mut rules = Vec::new();
+    for _ in 0..count {
+        let field = fields.take(6)?;
+        let rule = Rule { from: field[0], to: field[1], bound: little_endian(&field[2..]) as i32 };
+        rule_in_range(&rule, owners.len())?;
+        rules.push(rule);
+    }
+    Ok(Ticket { horizon, owners, rules })
+}
+
+/// A whole ticket, or the first of 1 to 8 that applies.
+pub fn ticket(bytes: &[u8]) -> Result<Ticket, u32> {
+    let mut fields = Fields { bytes };
+    let ticket = ticket_fields(&mut fields)?;
+    require(fields.bytes.is_empty(), 8)?;
+    Ok(ticket)
+}
+
+/// A whole record, or the first of 1 to 8 and 14 that applies.
+pub fn record(bytes: &[u8]) -> Result<Record, u32> {
+    let mut fields = Fields { bytes };
+    let ticket = ticket_fields(&mut fields)?;
+    require(fields.number(2)? as usize == ticket.events(), 14)?;
+    let mut committed = Vec::new();
+    let mut windows = Vec::new();
+    for _ in 0..ticket.events() {
+        let field = fields.take(9)?;
+        let (open, close) = (little_endian(&field[1..5]), little_endian(&field[5..]));
+        require(field[0] <= 1 && open <= close && close <= ticket.horizon, 14)?;
+        committed.push(field[0] == 1);
+        windows.push(Window { open, close });
+    }
+    let accepted = fields.number(2)? as u16;
+    require(accepted as usize == committed.iter().filter(|&&flag| flag).count(), 14)?;
+    require(fields.bytes.is_empty(), 8)?;
+    Ok(Record { ticket, committed, windows, accepted })
+}

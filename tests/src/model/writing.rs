@@ -1,0 +1,28 @@
+//! Tickets and records to bytes.
+
+use super::{Record, Ticket};
+
+pub fn ticket(ticket: &Ticket) -> Vec<u8> {
+    let mut bytes = Vec::new();
+    bytes.extend(ticket.horizon.to_le_bytes());
+    bytes.extend((ticket.events() as u16).to_le_bytes());
+    bytes.extend(&ticket.owners);
+    bytes.extend((ticket.rules.len() as u16).to_le_bytes());
+    for rule in &ticket.rules {
+        bytes.extend([rule.from, rule.to]);
+        bytes.extend(rule.bound.to_le_bytes());
+    }
+    bytes
+}
+
+pub fn record(record: &Record) -> Vec<u8> {
+    let mut bytes = ticket(&record.ticket);
+    bytes.extend((record.windows.len() as u16).to_le_bytes());
+    for (window, &committed) in record.windows.iter().zip(&record.committed) {
+        bytes.push(committed as u8);
+        bytes.extend(window.open.to_le_bytes());
+        bytes.extend(window.close.to_le_bytes());
+    }
+    bytes.extend(record.accepted.to_le_bytes());
+    bytes
+}

@@ -1,0 +1,47 @@
+//! The model against itself: exhaustive search and flow on tiny tickets and records, tables by enumeration
+//! and by shortest paths, and bytes that come back from reading and writing.
+
+use crate::generate;
+use crate::model::calls::{self, Outcome};
+use crate::model::{distances, exhaustive, reading, writing, Solver};
+use crate::random::Random;
+
+fn same(seed: u64, what: &str, by: impl Fn(Solver) -> Outcome, differences: &mut Vec<String>) {
+    let (searched, solved) = (by(Solver::Exhaustive), by(Solver::Flow));
+    if searched != solved {
+        differences.push(format!("{what} at seed {seed}: searched {searched:?}, by flow {solved:?}"));
+    }
+}
+
+/// How many tickets and records were tried, and where the two differ.
+pub fn compare(first: u64, count: u64) -> (u64, Vec<String>) {
+    let mut differences = Vec::new();
+    let mut tried = 0;
+    for seed in first..first + count {
+        let random = &mut Random::new(seed);
+        let ticket = generate::tiny(random);
+        let bytes = writing::ticket(&ticket);
+        same(seed, "plan", |solver| calls::plan(&bytes, solver), &mut differences);
+        if exhaustive::table(&ticket) != distances::table(&ticket) {
+            differences.push(format!("table at seed {seed}"));
+        }
+        if reading::ticket(&bytes).as_ref() != Ok(&ticket) {
+            differences.push(format!("ticket read again at seed {seed}"));
+        }
+        let mut record = generate::foreign_record(ticket, random);
+        for _ in 0..4 {
+            tried += 1;
+            let bytes = writing::record(&record);
+            if reading::record(&bytes).as_ref() != Ok(&record) {
+                differences.push(format!("record read again at seed {seed}"));
+            }
+            let commitment = generate::commitment(&record, random);
+            same(seed, "commitment", |solver| calls::commit(&bytes, commitment, solver), &mut differences);
+            if let Ok((next, _)) = calls::commit(&bytes, commitment, Solver::Flow) {
+                record = next;
+            }
+        }
+        tried += 1;
+    }
+    (tried, differences)
+}

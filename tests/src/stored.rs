@@ -1,0 +1,321 @@
+//! Cases with known answers: the examples of 01, and instances from the five source documents.
+//! Each is also compared with the model. "Says" lines are the source's statement, in our words.
+
+use crate::library::Library;
+use crate::model::calls;
+use crate::model::{reading, writing, Commitment, Record, Rule, Solver, Ticket, Window};
+use crate::trial::{Report, Trial, ENOUGH};
+
+/// A name and what it tries.
+type Case = (&'static str, fn(&mut Stored));
+
+pub const CASES: [Case; 20] = [
+    ("01, P1 and P2", example_1_2),
+    ("01, P3", example_3),
+    ("01, P4 and P5", example_4_5),
+    ("01, P6", example_6),
+    ("01, P7", example_7),
+    ("01, P8 and P9", example_8_9),
+    ("01, P10", example_10),
+    ("01, both sides of the limits", both_sides),
+    ("000, examples 1 and 2: trains", trains),
+    ("000, example 3: earliest to latest", trains_earliest_to_latest),
+    ("000, examples 4 to 6: a train commits", trains_commitment),
+    ("001, an implied bound", implied_bound),
+    ("003, concurrent events", concurrent),
+    ("003, sequential events", sequential),
+    ("003, any number of events", any_number),
+    ("003, examples 4 and 6: narrower windows", narrower),
+    ("003, example 5: the other order", other_order),
+    ("002 and 004, a shared calendar: table", calendar_table),
+    ("002 and 004, a shared calendar: schedules", calendar_schedules),
+    ("003, example 8: width of the calendar", calendar_width),
+];
+
+/// A case under way.
+pub struct Stored<'a> {
+    trial: Trial<'a>,
+}
+
+pub fn run(case: &Case, library: &dyn Library) -> Report {
+    let mut stored = Stored { trial: Trial::new(library, 1) };
+    (case.1)(&mut stored);
+    stored.trial.report
+}
+
+fn ticket(horizon: u32, owners: &[u8], rules: &[(u8, u8, i32)]) -> Ticket {
+    let rules = rules.iter().map(|&(from, to, bound)| Rule { from, to, bound }).collect();
+    Ticket { horizon, owners: owners.to_vec(), rules }
+}
+
+fn record(ticket: Ticket, windows: &[(u32, u32)]) -> Vec<u8> {
+    let windows = windows.iter().map(|&(open, close)| Window { open, close }).collect();
+    writing::record(&Record::new(ticket, windows))
+}
+
+impl Stored<'_> {
+    fn says(&mut self, holds: bool, what: &str) {
+        self.trial.expect(holds, "the source says", || what.to_string());
+    }
+
+    /// Tiny tickets are also compared with exhaustive search.
+    fn both_solvers(&mut self, tiny: bool, mut call: impl FnMut(&mut Trial) -> Option<Vec<u8>>) -> Option<Vec<u8>> {
+        if tiny {
+            self.trial.solver = Solver::Exhaustive;
+            call(&mut self.trial);
+        }
+        self.trial.solver = Solver::Flow;
+        call(&mut self.trial)
+    }
+
+    fn plan(&mut self, ticket: &Ticket) -> Option<Vec<u8>> {
+        let bytes = writing::ticket(ticket);
+        let tiny = ticket.events() <= 3 && ticket.horizon <= 10;
+        self.trial.rewrite_ticket(&bytes, calls::TICKET);
+        self.both_solvers(tiny, |trial| trial.plan(&bytes, ENOUGH))
+    }
+
+    fn commit(&mut self, record: &[u8], event: u32, open: u32, close: u32) -> Option<Vec<u8>> {
+        self.trial.rewrite_record(record, calls::RECORD);
+        self.both_solvers(false, |trial| trial.commit(record, Commitment { event, open, close }, ENOUGH))
+    }
+
+    fn windows(&mut self, record: &Option<Vec<u8>>, windows: &[(u32, u32)], what: &str) {
+        let read = record.as_ref().and_then(|bytes| reading::record(bytes).ok());
+        let given = read.map(|r| r.windows.iter().map(|w| (w.open, w.close)).collect::<Vec<_>>());
+        self.says(given.as_deref() == Some(windows), what);
+    }
+
+    fn width(&mut self, record: &Option<Vec<u8>>, width: u32, what: &str) {
+        let read = record.as_ref().and_then(|bytes| reading::record(bytes).ok());
+        self.says(read.map(|r| r.windows.iter().map(|w| w.close - w.open).sum()) == Some(width), what);
+    }
+
+    fn refused(&mut self, record: &Option<Vec<u8>>, what: &str) {
+        self.says(record.is_none(), what);
+    }
+
+    /// The number that planning gives, by the model; the library was compared with it.
+    fn number(&mut self, bytes: &[u8], number: u32, what: &str) {
+        self.trial.plan(bytes, ENOUGH);
+        let given = calls::plan(bytes, Solver::Flow).err().unwrap_or(0);
+        self.says(given == number, what);
+    }
+
+    fn table(&mut self, ticket: &Ticket) -> Vec<Vec<i32>> {
+        let size = ticket.events() + 1;
+        let out = self.trial.table(ticket.horizon, size as u32 - 1, &ticket.rules, calls::TABLE);
+        out.chunks(size).take(size).map(|row| row.to_vec()).collect()
+    }
+}
+
+/// Trains of 000, example 1, in minutes after noon: the first arrives between 5 and 15, the second between 8
+/// and 20, at most 4 after and at most 2 before the first.
+fn two_trains() -> Ticket {
+    ticket(20, &[0, 2], &[(0, 1, 15), (1, 0, -5), (0, 2, 20), (2, 0, -8), (1, 2, 4), (2, 1, 2)])
+}
+
+fn example_1_2(case: &mut Stored) {
+    let table = case.table(&two_trains());
+    case.says(table == [[0, 15, 19], [-5, 0, 4], [-8, 2, 0]], "P1's table");
+    let plan = case.plan(&two_trains());
+    case.windows(&plan, &[(5, 10), (8, 9)], "P1's plan");
+    case.width(&plan, 6, "P1's total");
+    let after = plan.and_then(|bytes| case.commit(&bytes, 1, 10, 10));
+    case.windows(&after, &[(10, 10), (8, 14)], "P2");
+}
+
+fn example_3(case: &mut Stored) {
+    let after = case.commit(&record(two_trains(), &[(15, 15), (13, 19)]), 2, 13, 13);
+    case.windows(&after, &[(9, 15), (13, 13)], "P3");
+}
+
+/// 003's three events in 0 to 5, one after the other: the third first, the first last.
+fn three_in_sequence() -> Ticket {
+    ticket(5, &[3, 3, 3], &[(1, 2, 0), (2, 3, 0)])
+}
+
+fn example_4_5(case: &mut Stored) {
+    let plan = case.plan(&three_in_sequence());
+    case.windows(&plan, &[(0, 5), (0, 0), (0, 0)], "P4's plan");
+    let after = plan.and_then(|bytes| case.commit(&bytes, 1, 2, 2));
+    case.windows(&after, &[(2, 2), (0, 2), (0, 0)], "P5");
+}
+
+fn example_6(case: &mut Stored) {
+    let plan = case.plan(&ticket(10, &[3, 3], &[(1, 2, -1), (2, 1, 1)]));
+    case.windows(&plan, &[(1, 1), (0, 0)], "P6's plan");
+    let impossible = ticket(10, &[3, 3], &[(1, 2, -1), (2, 1, 0)]);
+    case.number(&writing::ticket(&impossible), 9, "P6 with bound 0");
+}
+
+fn example_7(case: &mut Stored) {
+    let plan = case.plan(&ticket(10, &[3], &[(1, 0, -10)]));
+    case.windows(&plan, &[(10, 10)], "P7's plan");
+    case.number(&writing::ticket(&ticket(10, &[3], &[(1, 0, -11)])), 9, "P7 with bound -11");
+}
+
+fn example_8_9(case: &mut Stored) {
+    let plan = case.plan(&ticket(0, &[], &[]));
+    case.windows(&plan, &[], "P8");
+    case.number(&[], 1, "P9");
+}
+
+fn example_10(case: &mut Stored) {
+    let plan = case.plan(&ticket(5, &[3, 3], &[]));
+    case.windows(&plan, &[(0, 5), (0, 5)], "P10");
+}
+
+fn both_sides(case: &mut Stored) {
+    let many = |count: usize| vec![(0, 1, 5); count];
+    let pairs = [
+        (ticket(1_000_000, &[3], &[]), ticket(1_000_001, &[3], &[]), 2),
+        (ticket(5, &[3; 40], &[]), ticket(5, &[3; 41], &[]), 3),
+        (ticket(5, &[4], &[]), ticket(5, &[5], &[]), 4),
+        (ticket(5, &[3], &many(256)), ticket(5, &[3], &many(257)), 5),
+    ];
+    for (inside, outside, number) in pairs {
+        case.number(&writing::ticket(&inside), 0, "inside the limit");
+        case.number(&writing::ticket(&outside), number, "past the limit");
+    }
+    let with_bound = |bound: i32| ticket(1_000_000, &[3], &[(1, 0, bound)]);
+    case.number(&writing::ticket(&with_bound(-1_000_000)), 0, "least bound");
+    case.number(&writing::ticket(&with_bound(-1_000_001)), 7, "a bound below the least");
+    case.number(&writing::ticket(&with_bound(1_000_000)), 0, "greatest bound");
+    case.number(&writing::ticket(&with_bound(1_000_001)), 7, "a bound above the greatest");
+}
+
+/// Says: the matrix of least distances, earliest times 5 and 8, latest 15 and 19.
+fn trains(case: &mut Stored) {
+    let table = case.table(&two_trains());
+    case.says(table == [[0, 15, 19], [-5, 0, 4], [-8, 2, 0]], "matrix of example 2");
+    for schedule in [(10, 10), (15, 17)] {
+        let points = [(schedule.0, schedule.0), (schedule.1, schedule.1)];
+        let after = case.commit(&record(two_trains(), &points), 1, points[0].0, points[0].0);
+        case.says(after.is_some(), "both solutions of example 1 are schedules");
+    }
+}
+
+/// Says: from earliest to latest for each train alone, choices 10 and 16 together break the rules.
+fn trains_earliest_to_latest(case: &mut Stored) {
+    let after = case.commit(&record(two_trains(), &[(5, 15), (8, 19)]), 1, 10, 10);
+    case.refused(&after, "earliest to latest is no decoupling");
+    let after = case.commit(&record(two_trains(), &[(10, 10), (16, 16)]), 1, 10, 10);
+    case.refused(&after, "10 and 16 are no schedule");
+}
+
+/// Says: greatest flexibility 6, as with 15..15 and 13..19; when the second train commits to 13 the first may
+/// arrive at 9 to 15, where without an update it would be bound to 15.
+fn trains_commitment(case: &mut Stored) {
+    let plan = case.plan(&two_trains());
+    case.width(&plan, 6, "flexibility of example 4");
+    let after = case.commit(&record(two_trains(), &[(15, 15), (13, 19)]), 2, 13, 13);
+    case.windows(&after, &[(9, 15), (13, 13)], "update of example 5");
+}
+
+/// Before definition 2, says: at most 100 from i to j and at most 200 from j to k make at most 300 from i to k.
+fn implied_bound(case: &mut Stored) {
+    let table = case.table(&ticket(1_000, &[3; 3], &[(1, 2, 100), (2, 3, 200)]));
+    case.says(table[1][3] == 300, "implied bound");
+    let plan = case.plan(&ticket(1_000, &[3; 3], &[(1, 2, 100), (2, 3, 200)]));
+    case.says(plan.is_some(), "a schedule exists");
+}
+
+/// Figure 1, left: three events in 0 to 5, any two at most 5 apart.
+/// Says: each may take all of 0 to 5 on its own, flexibility 15.
+fn concurrent(case: &mut Stored) {
+    let pairs = [(1, 2), (2, 1), (1, 3), (3, 1), (2, 3), (3, 2)];
+    let rules: Vec<(u8, u8, i32)> = pairs.iter().map(|&(i, j)| (i, j, 5)).collect();
+    let plan = case.plan(&ticket(5, &[3; 3], &rules));
+    case.windows(&plan, &[(0, 5); 3], "windows of the concurrent events");
+}
+
+/// Figure 1, right. Says: earliest 0 and latest 5 for each, so the sum of these is 15, yet flexibility is 5.
+fn sequential(case: &mut Stored) {
+    let table = case.table(&three_in_sequence());
+    case.says(table[0] == [0, 5, 5, 5], "latest times");
+    case.says(table.iter().all(|row| row[0] == 0), "earliest times");
+    let plan = case.plan(&three_in_sequence());
+    case.width(&plan, 5, "flexibility of the sequential events");
+    let after = case.commit(&record(three_in_sequence(), &[(0, 5); 3]), 1, 0, 5);
+    case.refused(&after, "earliest to latest of the sequential events");
+}
+
+/// Example 2, says: k concurrent events have flexibility 5 k, k sequential ones 5.
+fn any_number(case: &mut Stored) {
+    for k in [1, 2, 7, 39, 40] {
+        let plan = case.plan(&ticket(5, &vec![0; k], &[]));
+        case.width(&plan, 5 * k as u32, "k concurrent events");
+        let order: Vec<(u8, u8, i32)> = (1..k as u8).map(|event| (event, event + 1, 0)).collect();
+        let plan = case.plan(&ticket(5, &vec![0; k], &order));
+        case.width(&plan, 5, "k sequential events");
+    }
+}
+
+/// Says: 3..4, 1..3, 0..1 are uncorrelated, and 4..5, 3..4, 0..2 are a decoupling; neither is widest.
+/// Committing the first event's own window then widens the others.
+fn narrower(case: &mut Stored) {
+    let after = case.commit(&record(three_in_sequence(), &[(3, 4), (1, 3), (0, 1)]), 1, 3, 4);
+    case.windows(&after, &[(3, 4), (1, 3), (0, 1)], "nothing is left to widen");
+    let after = case.commit(&record(three_in_sequence(), &[(4, 5), (3, 4), (0, 2)]), 1, 4, 5);
+    case.windows(&after, &[(4, 5), (2, 4), (0, 2)], "one tick is left to widen");
+}
+
+/// Says: 0..5, 5..5, 5..5 for the sequential events. That is fit when the first comes first; with the order
+/// of figure 1 it is not.
+fn other_order(case: &mut Stored) {
+    let windows = [(0, 5), (5, 5), (5, 5)];
+    let after = case.commit(&record(three_in_sequence(), &windows), 2, 5, 5);
+    case.refused(&after, "fit for the other order only");
+    let reversed = ticket(5, &[3; 3], &[(2, 1, 0), (3, 2, 0)]);
+    let after = case.commit(&record(reversed, &windows), 2, 5, 5);
+    case.windows(&after, &windows, "fit for the other order");
+}
+
+/// Minutes after 8:00, up to noon. Chris: project 1 to 2, then lecture 3 to 4 from 10:00 to 12:00. Ann: run 5
+/// to 6, then project 7 to 8. Bill: run 9 to 10, then homework 11 to 12. Ann and Bill run together; Ann's
+/// project waits for Chris's.
+fn calendar() -> Ticket {
+    let mut rules = Vec::new();
+    let mut between = |from: u8, to: u8, low: i32, high: i32| rules.extend([(from, to, high), (to, from, -low)]);
+    between(1, 2, 90, 120);
+    between(0, 3, 120, 120);
+    between(3, 4, 120, 120);
+    between(5, 6, 60, 60);
+    between(7, 8, 90, 120);
+    between(9, 10, 60, 60);
+    between(11, 12, 60, 180);
+    between(5, 9, 0, 0);
+    rules.extend([(3, 2, 0), (7, 6, 0), (11, 10, 0), (7, 2, 0)]);
+    ticket(240, &[0, 0, 0, 0, 1, 1, 1, 1, 2, 2, 2, 2], &rules)
+}
+
+/// Figure 1(b), says: earliest and latest times; Chris's project starts 8:00 to 8:30 and ends 9:30 to 10:00,
+/// both runs start 8:00 to 9:30, homework starts 9:00 to 11:00.
+fn calendar_table(case: &mut Stored) {
+    let table = case.table(&calendar());
+    case.says(table[0] == [0, 30, 120, 120, 240, 90, 150, 150, 240, 90, 150, 180, 240], "latest times");
+    let earliest: Vec<i32> = table.iter().map(|row| -row[0]).collect();
+    case.says(earliest == [0, 0, 90, 120, 240, 0, 60, 90, 180, 0, 60, 60, 120], "earliest times");
+}
+
+/// Figure 1(d), says: 8:00 to 9:30 and the lecture for Chris, run 8:00 to 9:00 and project 9:30 to 11:00 for
+/// Ann is a schedule, here with homework 9:00 to 12:00. Ann running at 8:00 and Bill at 9:00 is none.
+fn calendar_schedules(case: &mut Stored) {
+    let points = |ticks: [u32; 12]| ticks.map(|tick| (tick, tick));
+    let together = points([0, 90, 120, 240, 0, 60, 90, 180, 0, 60, 60, 240]);
+    let after = case.commit(&record(calendar(), &together), 5, 0, 0);
+    case.says(after.is_some(), "a joint schedule");
+    let apart = points([0, 90, 120, 240, 0, 60, 90, 180, 60, 120, 120, 240]);
+    let after = case.commit(&record(calendar(), &apart), 5, 0, 0);
+    case.refused(&after, "runs apart");
+}
+
+/// Says: earliest to latest sums to 780 minutes, flexibility is 180 minutes.
+fn calendar_width(case: &mut Stored) {
+    let table = case.table(&calendar());
+    let sum: i32 = (1..=12).map(|k| table[0][k] + table[k][0]).sum();
+    case.says(sum == 780, "sum of earliest to latest");
+    let plan = case.plan(&calendar());
+    case.width(&plan, 180, "flexibility of the calendar");
+}

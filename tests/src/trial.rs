@@ -1,0 +1,218 @@
+//! One call at a time: the library's answer and all the memory it was lent, against what the model says.
+
+use crate::lent::{Element, Lent};
+use crate::library::Library;
+use crate::model::calls::{self, Answer, Loose, Outcome};
+use crate::model::{reading, writing, Commitment, Record, Rule, Solver};
+use crate::random::Random;
+
+/// Calls made, how many of them the model answers with each number, and the differences found.
+#[derive(Default)]
+pub struct Report {
+    pub calls: u64,
+    pub numbers: [u64; 16],
+    pub differences: Vec<String>,
+}
+
+/// A library under trial, and the report so far.
+pub struct Trial<'a> {
+    library: &'a dyn Library,
+    pub random: Random,
+    pub solver: Solver,
+    pub report: Report,
+}
+
+/// How long output and scratch are.
+#[derive(Clone, Copy, Debug)]
+pub struct Lengths {
+    pub out: usize,
+    pub scratch: usize,
+}
+
+pub const ENOUGH: Lengths = Lengths { out: calls::RECORD, scratch: calls::SCRATCH };
+
+pub fn hex(bytes: &[u8]) -> String {
+    bytes.iter().map(|byte| format!("{byte:02x}")).collect()
+}
+
+impl<'a> Trial<'a> {
+    pub fn new(library: &'a dyn Library, seed: u64) -> Trial<'a> {
+        Trial { library, random: Random::new(seed), solver: Solver::Flow, report: Report::default() }
+    }
+
+    /// Notes a difference unless `holds`.
+    pub fn expect(&mut self, holds: bool, what: &str, call: impl FnOnce() -> String) {
+        if !holds {
+            self.report.differences.push(format!("{what}: {}", call()));
+        }
+    }
+
+    fn lend<T: Element>(&mut self, length: usize) -> Lent<T> {
+        Lent::new(length, &mut self.random)
+    }
+
+    fn count(&mut self, number: u32) {
+        self.report.calls += 1;
+        self.report.numbers[number as usize] += 1;
+    }
+
+    /// Planning and commitment: answer, record, rest of the output, scratch; then the C door.
+    /// What the library wrote, if the model accepts.
+    fn planning(
+        &mut self,
+        expected: &Outcome,
+        lengths: Lengths,
+        call: &dyn Fn() -> String,
+        lent: &dyn Fn(&mut [u8], &mut [u32]) -> Answer,
+        door: &dyn Fn(&mut [u8]) -> u32,
+    ) -> Option<Vec<u8>> {
+        let mut out: Lent<u8> = self.lend(lengths.out);
+        let mut scratch: Lent<u32> = self.lend(lengths.scratch);
+        let answer = lent(out.slice(), scratch.slice());
+        let short = lengths.out < calls::RECORD || lengths.scratch < calls::SCRATCH;
+        let (number, record, total) = match expected {
+            _ if short => (10, Vec::new(), 0),
+            Err(number) => (*number, Vec::new(), 0),
+            Ok((record, total)) => (0, writing::record(record), *total as u32),
+        };
+        self.count(number);
+        let length = record.len();
+        let expected_answer = Answer { number, length: length as u32, total };
+        self.expect(answer == expected_answer, "answer", || {
+            format!("{} answered {answer:?}, expected {expected_answer:?}", call())
+        });
+        let written = out.first(length).to_vec();
+        self.expect(written == record, "record", || {
+            format!("{} wrote {}, expected {}", call(), hex(&written), hex(&record))
+        });
+        self.expect(out.untouched_after(length), "rest of the output", call);
+        let cleared = if short { 0 } else { calls::SCRATCH };
+        let zero = scratch.first(cleared).iter().all(|&number| number == 0);
+        self.expect(zero, "scratch not cleared", call);
+        self.expect(scratch.untouched_after(cleared), "rest of the scratch", call);
+        self.door(expected, lengths.out, call, door);
+        if number == 0 {
+            Some(written)
+        } else {
+            None
+        }
+    }
+
+    /// The door has scratch of its own; length and total follow from the record.
+    fn door(&mut self, expected: &Outcome, length: usize, call: &dyn Fn() -> String, door: &dyn Fn(&mut [u8]) -> u32) {
+        let mut out: Lent<u8> = self.lend(length);
+        let answer = door(out.slice());
+        let (number, record) = match expected {
+            _ if length < calls::RECORD => (10, Vec::new()),
+            Err(number) => (*number, Vec::new()),
+            Ok((record, _)) => (0, writing::record(record)),
+        };
+        self.count(number);
+        self.expect(answer == number, "door's number", || format!("{} answered {answer}, expected {number}", call()));
+        self.expect(out.first(record.len()) == record, "door's record", call);
+        self.expect(out.untouched_after(record.len()), "rest of the door's output", call);
+    }
+
+    /// Planning of these bytes; the record, if accepted.
+    pub fn plan(&mut self, ticket: &[u8], lengths: Lengths) -> Option<Vec<u8>> {
+        let expected = calls::plan(ticket, self.solver);
+        let library = self.library;
+        self.planning(
+            &expected,
+            lengths,
+            &|| format!("plan {} with {lengths:?}", hex(ticket)),
+            &|out, scratch| library.plan(ticket, out, scratch),
+            &|out| library.plan_door(ticket, out),
+        )
+    }
+
+    /// A commitment on these bytes; the record, if accepted.
+    pub fn commit(&mut self, record: &[u8], commitment: Commitment, lengths: Lengths) -> Option<Vec<u8>> {
+        let expected = calls::commit(record, commitment, self.solver);
+        let library = self.library;
+        self.planning(
+            &expected,
+            lengths,
+            &|| format!("commit {commitment:?} on {} with {lengths:?}", hex(record)),
+            &|out, scratch| library.commit(record, commitment, out, scratch),
+            &|out| library.commit_door(record, commitment, out),
+        )
+    }
+
+    /// The table of H, n and rules; what the output holds afterwards.
+    pub fn table(&mut self, horizon: u32, events: u32, rules: &[Rule], length: usize) -> Vec<i32> {
+        let mut out: Lent<i32> = self.lend(length);
+        let mut expected = out.slice().to_vec();
+        let number = calls::table(horizon, events, rules, &mut expected, self.solver);
+        let answer = self.library.table(horizon, events, rules, out.slice());
+        self.count(number);
+        let call = || format!("table H {horizon}, n {events}, {rules:?}, {length} numbers");
+        self.expect(answer == number, "table's number", || format!("{} answered {answer}, expected {number}", call()));
+        self.expect(out.slice() == expected, "table", call);
+        self.expect(out.untouched_after(length), "margin of the table", call);
+        out.slice().to_vec()
+    }
+
+    pub fn rewrite_ticket(&mut self, ticket: &[u8], length: usize) {
+        let library = self.library;
+        let expected = |out: &mut [u8]| calls::rewrite_ticket(ticket, out);
+        self.rewriting("ticket", ticket, length, &expected, &|out| library.rewrite_ticket(ticket, out));
+    }
+
+    pub fn rewrite_record(&mut self, record: &[u8], length: usize) {
+        let library = self.library;
+        let expected = |out: &mut [u8]| calls::rewrite_record(record, out);
+        self.rewriting("record", record, length, &expected, &|out| library.rewrite_record(record, out));
+    }
+
+    pub fn write_ticket(&mut self, loose: &Loose, length: usize) {
+        let library = self.library;
+        let expected = |out: &mut [u8]| calls::write_ticket(loose, out);
+        if library.write_ticket(loose, &mut []).is_some() {
+            let call = |out: &mut [u8]| library.write_ticket(loose, out).unwrap_or_default();
+            self.rewriting("loose ticket", format!("{loose:?}").as_bytes(), length, &expected, &call);
+        }
+    }
+
+    /// Number, length, bytes and rest; an accepted piece of bytes has to come back as it was.
+    fn rewriting(
+        &mut self,
+        kind: &str,
+        bytes: &[u8],
+        length: usize,
+        expected: &dyn Fn(&mut [u8]) -> (u32, u32),
+        rewrite: &dyn Fn(&mut [u8]) -> (u32, u32),
+    ) {
+        let mut out: Lent<u8> = self.lend(length);
+        let mut wanted = out.slice().to_vec();
+        let answer = expected(&mut wanted);
+        let given = rewrite(out.slice());
+        self.count(answer.0);
+        let call = || format!("{kind} {} with {length} bytes answered {given:?}, expected {answer:?}", hex(bytes));
+        self.expect(given == answer, "written again", call);
+        self.expect(out.slice() == wanted, "written again", call);
+        self.expect(out.untouched_after(answer.1 as usize), "rest of what is written again", call);
+    }
+
+    /// A record's claims that need no model: what a run says of flags, counts and kept windows.
+    pub fn follows(&mut self, before: &Record, commitment: Commitment, after: &[u8]) -> Option<Record> {
+        let Ok(record) = reading::record(after) else {
+            self.report.differences.push(format!("unreadable record {}", hex(after)));
+            return None;
+        };
+        let place = commitment.event as usize - 1;
+        let mut flags = before.committed.clone();
+        flags[place] = true;
+        let kept = before.windows.iter().zip(&record.windows).enumerate().all(|(k, (old, new))| match k {
+            _ if k == place => (new.open, new.close) == (commitment.open, commitment.close),
+            _ if before.committed[k] => new == old,
+            _ => new.open <= old.open && old.close <= new.close,
+        });
+        let holds = kept
+            && record.ticket == before.ticket
+            && record.committed == flags
+            && record.accepted == before.accepted + 1;
+        self.expect(holds, "a run's claim", || format!("{commitment:?} made {} of {before:?}", hex(after)));
+        Some(record)
+    }
+}
