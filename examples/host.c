@@ -124,7 +124,8 @@ int main(void)
     print("after event 1 commits 10..10", next);
 
     /* A refusal leaves the output as it was: the record in `next` is still the one to go on with. */
-    memcpy(plan, next, sizeof plan);
-    refused("event 1 at 9..9", beyunlak_commit(next, length(next), 1, 9, 9, plan, sizeof plan));
-    return memcmp(plan, next, sizeof plan) != 0;
+    size_t next_len = length(next);
+    memcpy(plan, next, next_len);
+    refused("event 1 at 9..9", beyunlak_commit(next, next_len, 1, 9, 9, plan, sizeof plan));
+    return memcmp(plan, next, next_len) != 0;
 }
