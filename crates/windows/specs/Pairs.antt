@@ -3,17 +3,15 @@ use Prim.Native.Nat.{ℕ, zero, suc, _+_, _*_, _-_, _≤_, _<_}
 use mathlib.Core.Path.{_≡_, refl, sym, ap, _∙_}
 use mathlib.Core.Bool.{cond}
 use mathlib.Core.List.{List}
-use mathlib.Core.Logic.{⊎-elim}
 use native.Mathlib.Omega.{arith}
-use native.Mathlib.Nat.{eq-or-lt-of-le}
 use borrow.Author.Count.{below-none, below-more}
 use lib.Dec.{ltb}
 use lib.ListN.{length, set, length-set, replicate}
 use lib.Seq.{getD-set-same, getD-set-other}
-use Rattle.temporal.specs.Lists.{tab-cong, below-or-not}
+use Rattle.temporal.specs.Lists.{tab-cong}
 use Rattle.temporal.specs.Ticket.{weight, weight-small, Window}
-use Rattle.network.specs.Lists.{set-more, zeros-at}
-use Rattle.network.specs.Solve.{Weights}
+use Rattle.network.specs.Lists.{set-more}
+use Rattle.network.specs.Solve.{Weights, weights-none, weights-more}
 use Rattle.network.specs.Stored.{at}
 use Rattle.windows.specs.Arrays.{windowList, window-at, Within, within-same}
 use Rattle.windows.specs.Nodes.{by-nodes, windowsOf, potentialOf, potential-open, potential-close}
@@ -85,36 +83,21 @@ replicate-most (suc m) x (suc i) = replicate-most m x i
 
 -- ---- weights
 
--- the weights of the first k events' owners, and 0 elsewhere
+-- the first k events have the weights of their owners
 pub record Weighs (owners xs : List ℕ) (k : ℕ) : Type 0 where
-  pub long : length xs ≡ 81
-  pub none : at xs 0 ≡ 0
+  pub weights : Weights k xs
   pub owned : (i : ℕ) → i < k → at xs (suc i) ≡ weight (at owners i)
-  pub past : (v : ℕ) → k < v → at xs v ≡ 0
 
 pub weighs-none : (owners : List ℕ) → Weighs owners (replicate 81 0) 0
-weighs-none owners = record { long = refl; none = refl; owned = below-none _; past = λ v l. zeros-at 81 v }
+weighs-none owners = record { weights = weights-none; owned = below-none _ }
 
 pub weighs-more : {owners xs : List ℕ} {k x : ℕ} → k < 40 → x ≡ weight (at owners k) → Weighs owners xs k → Weighs owners (set xs (k + 1) x) (k + 1)
-weighs-more {owners} {xs} {k} {x} l e W =
-    let one : k + 1 ≡ suc k = omega arith in
-    rw one record {
-      long = simp length-set (W .long);
-      none = getD-set-other xs (suc k) 0 x 0 (λ q. omega arith) ∙ W .none;
-      owned = λ i li.
-          ⊎-elim
-          (λ (q : i ≡ k). rw q (getD-set-same xs (suc k) x 0 (omega (arith, W .long)) ∙ e))
-          (λ (q : i < k). getD-set-other xs (suc k) (suc i) x 0 (λ s. omega arith) ∙ W .owned i q)
-          (eq-or-lt-of-le (omega arith));
-      past = λ v lv. getD-set-other xs (suc k) v x 0 (λ q. omega arith) ∙ W .past v (omega arith);
-    }
-
-pub weighs-weights : {owners xs : List ℕ} {n : ℕ} → Weighs owners xs n → Weights n xs
-weighs-weights {owners} {xs} {n} W = record { long = W .long; small = small; none = W .none; past = W .past }
-  where
-    small : (v : ℕ) → at xs v ≤ 3
-    small zero = omega (arith, W .none)
-    small (suc i) = ⊎-elim (λ (l : i < n). rw (W .owned i l) (weight-small (at owners i))) (λ (l : n ≤ i). omega (arith, W .past (suc i) (omega arith))) (below-or-not i n)
+weighs-more {owners} {xs} {k} {x} l e W = record {
+  weights = weights-more x (W .weights) (omega arith) (rw e (weight-small (at owners k)));
+  owned = below-more (λ i. at (set xs (k + 1) x) (suc i) ≡ weight (at owners i)) k
+      (λ i li. getD-set-other xs (k + 1) (suc i) x 0 (λ q. omega arith) ∙ W .owned i li)
+      (let one : suc k ≡ k + 1 = omega arith in rw (one, getD-set-same xs (k + 1) x 0 (omega (arith, W .weights .long))) e);
+}
 
 -- ---- the windows of a potential, in arrays
 

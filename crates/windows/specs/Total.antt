@@ -1,6 +1,6 @@
 -- The weighted total of windows in arrays, event by event.
-use Prim.Native.Nat.{ℕ, _*_, _-_, _≤_}
-use mathlib.Core.Path.{_≡_, ap, _∙_}
+use Prim.Native.Nat.{ℕ, suc, _+_, _*_, _-_, _≤_}
+use mathlib.Core.Path.{_≡_, refl, ap, _∙_}
 use mathlib.Core.List.{List}
 use native.Mathlib.Omega.{arith}
 use native.Mathlib.Nat.{mul-le-mul-left, mul-le-mul-right}
@@ -16,6 +16,10 @@ part owners opens closes i = weight (at owners i) * (at closes i - at opens i)
 
 pub part-most : (owner x : ℕ) → x ≤ 1000000 → weight owner * x ≤ 3000000
 part-most owner x l = omega (arith, mul-le-mul-left (weight owner) l, mul-le-mul-right 1000000 (weight-small owner))
+
+pub sum-next : (i : ℕ) (f : ℕ → ℕ) → sum (i + 1) f ≡ sum i f + f i
+unfolding sum
+sum-next i f = let e : i + 1 ≡ suc i = omega arith in rw e refl
 
 pub total-parts : (t : Arrays) (opens closes : List ℕ) → total (ticketIn t) (windowList (t .events) opens closes) ≡ sum (t .events) (part (t .owners) opens closes)
 total-parts t opens closes =

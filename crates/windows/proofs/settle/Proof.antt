@@ -2,7 +2,7 @@
 use borrow.Author.Needs.{needs}
 use mathlib.Core.Path.{_∙_}
 use Rattle.windows.specs.Network.{built-flowless, built-spans, potential-chosen}
-use Rattle.windows.specs.Pairs.{weighs-none, weighs-weights, read-windows}
+use Rattle.windows.specs.Pairs.{weighs-none, read-windows}
 use Rattle.windows.proofs.settle.Statement.{statement}
 use Rattle.windows.proofs.settle.Tie as tie
 
@@ -17,7 +17,7 @@ solve-requires c κs =
     let p = c .before .before .before .before .before .before .before .before .before .before .before .before .pre in
     let B = c .before .before .before .before .before .build .ensures .0 in
     let S = p .1 .1 in
-    (built-flowless B (p .0) (S .limits) _ (S .long) (S .meeting), (built-spans B (p .0) (S .limits), weighs-weights (c .before .before .before .before .before .before .before .weigh .ensures)))
+    (built-flowless B (p .0) (S .limits) _ (S .long) (S .meeting), (built-spans B (p .0) (S .limits), c .before .before .before .before .before .before .before .weigh .ensures .weights))
 
 read-windows-requires : tie.Need-read-windows-requires
 read-windows-requires c κs = (c .before .before .before .before .before .before .before .before .before .before .before .before .before .before .before .before .before .before .pre .0 .few, (c .before .before .before .before .before .before .before .before .before .before .before .before .before .before .before .before .before .before .pre .1 .0 .opens-long, c .before .before .before .before .before .before .before .before .before .before .before .before .before .before .before .before .before .before .pre .1 .0 .closes-long))

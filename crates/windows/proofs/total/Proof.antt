@@ -5,7 +5,7 @@ use Prim.Native.Nat.{_*_, _-_, _≤_}
 use mathlib.Core.Path.{_≡_, refl, sym, ap, _∙_}
 use Rattle.network.specs.Sum as sums
 use Rattle.windows.specs.Arrays.{valid-given, lie-at}
-use Rattle.windows.specs.Total.{part, total-parts}
+use Rattle.windows.specs.Total.{part, sum-next, total-parts}
 use Rattle.windows.proofs.total.Statement.{statement}
 use Rattle.windows.proofs.total.Tie as tie
 
@@ -49,7 +49,7 @@ loop-again : tie.Need-loop-again Inv-loop μ-loop
 loop-again c =
     let h = c .before .before .before .before .before .loop .inv in
     let p = c .part .ensures in
-    (omega arith, omega (arith, h .1, p .0, sums.sum-next (c .before .before .before .before .before .loop .i) (part (c .before .before .before .before .before .before .args .t1 .owners) (c .before .before .before .before .before .before .args .opens .now) (c .before .before .before .before .before .before .args .closes .now))), omega (arith, p .1))
+    (omega arith, omega (arith, h .1, p .0, sum-next (c .before .before .before .before .before .loop .i) (part (c .before .before .before .before .before .before .args .t1 .owners) (c .before .before .before .before .before .before .args .opens .now) (c .before .before .before .before .before .before .args .closes .now))), omega (arith, p .1))
 
 returns : tie.Need-returns Inv-loop μ-loop
 returns c =

@@ -17,7 +17,7 @@ loop-holds : tie.Need-loop-holds Inv-loop μ-loop
 loop-holds c = (omega arith, c .pre .1)
 
 element-write-weight : tie.Need-element-write-weight Inv-loop μ-loop
-element-write-weight c = omega (arith, c .before .before .before .loop .inv .1 .long)
+element-write-weight c = omega (arith, c .before .before .before .loop .inv .1 .weights .long)
 
 loop-again : tie.Need-loop-again Inv-loop μ-loop
 loop-again c = (omega arith, weighs-more (omega arith) (c .weight .ensures) (c .before .before .before .loop .inv .1))
