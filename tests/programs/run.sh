@@ -33,11 +33,19 @@ prints() {
 
 # ---- the program
 
-while IFS='|' read -r name hex wanted; do
-    case $name in '#'* | '') continue ;; esac
-    bytes "$hex" >"$work/ticket"
-    prints "${name% }" "${wanted# }"
-done <"$here/cases.txt"
+# the tickets of cases.txt become files, and their names and answers a list
+python3 - "$here/cases.txt" "$work" <<'CASES' >"$work/list"
+import sys
+rows = [line.rstrip("\n").split("|") for line in open(sys.argv[1], encoding="ascii") if not line.startswith("#")]
+for number, (name, bytes_, answer) in enumerate(rows):
+    with open(f"{sys.argv[2]}/{number}", "wb") as ticket:
+        ticket.write(bytes.fromhex(bytes_))
+    print(number, name.strip(), answer.strip(), sep="|")
+CASES
+while IFS='|' read -r number name wanted; do
+    mv "$work/$number" "$work/ticket"
+    prints "$name" "$wanted"
+done <"$work/list"
 
 while IFS='|' read -r name wanted; do
     cp "examples/tickets/${name% }.ticket" "$work/ticket"

@@ -1,6 +1,6 @@
 -- What reading bytes and writing them back answers: the number, the length that is stored, and the output afterwards.
 use Prim.Native.Nat.{ℕ, _≤_, _<_, min}
-use mathlib.Core.Path.{_≡_, refl, sym, ap, _∙_}
+use mathlib.Core.Path.{_≡_, refl, _∙_}
 use mathlib.Core.Bool.{cond}
 use mathlib.Core.List.{List, []}
 use mathlib.Core.Logic.{_≢_}
@@ -10,7 +10,7 @@ use lib.Dec.{leb}
 use lib.ListN.{length}
 use Rattle.temporal.specs.Ticket as temporal
 use Rattle.temporal.specs.Plan.{State}
-use Rattle.ticket.specs.Parser.{Cause, number, Out, got, refused, Parser, wholly}
+use Rattle.ticket.specs.Parser.{number, Out, got, refused, Parser, wholly}
 use Rattle.ticket.specs.Laws.{number-some}
 use Rattle.ticket.specs.Format.{readTicket, readState}
 use Rattle.ticket.specs.Stored.{answer, planned, wholeTicket, wholeRecord}

@@ -6,7 +6,7 @@ use mathlib.Core.List.{List}
 use Prim.Native.Nat.{ℕ}
 use lib.Dec.{leb}
 use lib.ListN.{length}
-use Rattle.temporal.specs.Ticket.{Ticket, total}
+use Rattle.temporal.specs.Ticket.{total}
 use Rattle.temporal.specs.Plan.{State, Commitment, Answer, plan, commit}
 use Rattle.ticket.specs.Parser.{Out, number, wholly}
 use Rattle.plan.specs.Zeroed.{zeroed}

@@ -1,18 +1,16 @@
 -- What the code's inner functions leave, as far as it is settled before the scratch is cleared: the answer, the output, and the scratch past its first 8,192 numbers.
 -- The laws follow the code: a refusal, an accepted call, a reading, and the two doors.
 use mathlib.Core.Path.{_≡_, refl, sym, ap, subst, _∙_}
-use mathlib.Core.Bool.{Bool, true, false, cond, _&&_}
-use mathlib.Core.List.{List, []}
+use mathlib.Core.Bool.{true, false}
+use mathlib.Core.List.{List}
 use Prim.Native.Nat.{ℕ, _≤_, _<_}
-use native.Mathlib.Omega.{arith}
 use borrow.Author.Tests.{le-leb, lt-leb}
-use lib.Dec.{leb}
 use lib.ListN.{length}
 use Rattle.temporal.specs.Ticket as temporal
 use Rattle.temporal.specs.Ticket.{total}
 use Rattle.temporal.specs.Plan.{State, Answer as Decision, accepted, refused, plan}
 use Rattle.temporal.specs.Run.{Valid, Readable}
-use Rattle.ticket.specs.Parser.{Cause, Out, got, number, Parser, wholly}
+use Rattle.ticket.specs.Parser.{Cause, Out, got, number, wholly}
 use Rattle.ticket.specs.Parser as parser
 use Rattle.ticket.specs.Format.{readTicket, readState}
 use Rattle.ticket.specs.Writer.{writeState}
@@ -23,7 +21,7 @@ use Rattle.ticket.specs.Answers.{was-refused, was-got}
 use Rattle.ticket.specs.declared.ReadTicket.{ReadTicket}
 use Rattle.ticket.specs.declared.ReadRecord.{ReadRecord}
 use Rattle.plan.specs.Zeroed.{zeroed, past, zeroed-rest}
-use Rattle.plan.specs.Calls.{Outcome, room, cleared, tooShort, sentBack, answered, afterReading}
+use Rattle.plan.specs.Calls.{Outcome, room, cleared, tooShort, answered, afterReading}
 use Rattle.plan.specs.Structs.{ticketOf, stateOf, ticket-of, state-of, Kept, kept-read}
 use Rattle.plan.specs.Returned.{returned}
 use Rattle.plan.specs.declared.Answer.{Answer}

@@ -23,7 +23,7 @@ use Rattle.ticket.specs.Writer.{writeTicket, writeState}
 use Rattle.ticket.specs.Writing.{over}
 use Rattle.ticket.specs.RoundTrip.{Bytes, read-written-state, read-written, written-read, written-read-state}
 use Rattle.plan.specs.Calls.{Outcome, room, tooShort, handedOut, answered, afterReading, asking, planning, planning-short, planning-read, committing-short, committing-read}
-use Rattle.plan.specs.Run.{Call, asks, outcome, written, Holds, Current, Refused, Accepted, Claim, Planned, Unplanned, Start, planned, given, Run}
+use Rattle.plan.specs.Run.{Call, asks, outcome, written, Holds, Claim, Planned, Unplanned, Start, planned, given, Run}
 
 answered-number : (out scratch : List ℕ) (a : Answer) → answered out scratch a .number ≡ decided a
 answered-number out scratch (Answer.refused r) = refl

@@ -3,10 +3,9 @@
 use mathlib.Core.Path.{_≡_, refl, sym, ap, subst, _∙_}
 use mathlib.Core.Bool.{Bool, true, false}
 use mathlib.Core.List.{List, [], _∷_, map, _++_}
-use Prim.Native.Nat.{ℕ, zero, suc, _+_, _-_, _≤_, _<_}
+use Prim.Native.Nat.{ℕ, zero, suc, _-_, _≤_, _<_}
 use native.Mathlib.Omega.{arith}
 use lib.Dec.{ltb}
-use lib.IntN.{pos}
 use mathlib.Core.Logic.{_⊎_, inl, inr}
 use lib.ListN.{length, getD, set, replicate, length-append, length-replicate, length-map, List·getD-append, length-set}
 use lib.Seq.{ext-getD, getD-append-add, getD-set-other}
@@ -15,7 +14,7 @@ use Rattle.temporal.specs.Ticket as temporal
 use Rattle.temporal.specs.Ticket.{Rule, Window, events, origin}
 use Rattle.temporal.specs.Ends.{Lies}
 use Rattle.temporal.specs.Plan.{State, flagged}
-use Rattle.temporal.specs.Run.{Valid, Readable}
+use Rattle.temporal.specs.Run.{Readable}
 use Rattle.network.specs.Stored.{at}
 use Rattle.ticket.specs.Parser.{got}
 use Rattle.ticket.specs.RoundTrip.{flags-small}
@@ -23,7 +22,7 @@ use Rattle.ticket.specs.Agree.{field-at, readable-written}
 use Rattle.ticket.specs.Writing.{over, told, left, writingRecord, recordWritten, recordOutput}
 use Rattle.ticket.specs.Stored.{pad, stored, storedState}
 use Rattle.ticket.specs.Writer.{flagByte, writeState}
-use Rattle.windows.specs.Arrays.{ticketIn, windowList, flagList, stateIn, ruleIn, noRule, ticket-in, window-list, flag-list, window-at, flag-at, length-window-list, in-horizon, in-events, Lie, Within}
+use Rattle.windows.specs.Arrays.{ticketIn, stateIn, noRule, ticket-in, window-list, flag-list, window-at, flag-at, in-horizon, in-events, Lie, Within}
 use Rattle.ticket.specs.declared.Ticket.{Ticket}
 use Rattle.ticket.specs.declared.Record.{Record}
 use Rattle.windows.specs.declared.Arrays.{Arrays}

@@ -1,17 +1,15 @@
 -- What the program prints for the bytes of a ticket, and how that follows from what planning returns and writes.
 use Prim.Native.Nat.{ℕ, _+_, _≤_, _<_}
-use mathlib.Core.Path.{_≡_, refl, sym, ap, _∙_}
-use mathlib.Core.Bool.{Bool, true, false, cond}
-use mathlib.Core.List.{List, [], _++_, map}
+use mathlib.Core.Path.{_≡_, refl, ap, _∙_}
+use mathlib.Core.Bool.{true}
+use mathlib.Core.List.{List, [], _++_}
 use mathlib.Core.Logic.{_≢_, ⊎-elim}
 use native.Mathlib.Omega.{arith}
-use borrow.Author.Tests.{le-leb}
-use lib.Dec.{leb}
 use lib.ListN.{length, getD, take, length-append, List·getD-append}
 use lib.Seq.{take-append-seam}
 use Rattle.temporal.specs.Ticket.{Ticket, Window, events, origin, total}
 use Rattle.temporal.specs.Plan.{State, Answer, refused, accepted, plan}
-use Rattle.temporal.specs.Run.{Valid, Readable, Start, planning, Answered, Place}
+use Rattle.temporal.specs.Run.{Valid, Readable, planning, Place}
 use Rattle.temporal.specs.RunHolds.{run}
 use Rattle.ticket.specs.Parser.{Cause, number, Out, got, refused, wholly}
 use Rattle.ticket.specs.RoundTrip.{Bytes, written-read, read-written-state, answered}

@@ -1,6 +1,6 @@
 -- The causes to refuse, one by one, and what holds of an input that has none. Rests on the definitions of Table.
 use Prim.Native.Nat.{ℕ, zero, suc, _≤_, _<_}
-use mathlib.Core.Path.{_≡_, refl, sym, ap, _∙_}
+use mathlib.Core.Path.{_≡_, refl, ap, _∙_}
 use mathlib.Core.Bool.{Bool, true, false, cond, _||_}
 use mathlib.Core.List.{List, [], _∷_}
 use native.Mathlib.Omega.{arith}
@@ -10,7 +10,7 @@ use lib.ListN.{length, replicate, length-replicate}
 use lib.Signed.{ltZ, ltZ-no}
 use borrow.Author.Tests.{lt-ltb, le-ltb, ltb-false, eqb-false}
 use Rattle.temporal.specs.Lists.{All}
-use Rattle.temporal.specs.Ticket.{Rule, Ticket, events}
+use Rattle.temporal.specs.Ticket.{Rule, events}
 use Rattle.temporal.specs.Distance.{consistent}
 use Rattle.temporal.specs.Run.{ValidRule, Valid}
 use Rattle.table.specs.Table.{ticketOf, orElse, ruleCause, rulesCause, cause, filled, tableOf}

@@ -1,7 +1,7 @@
 -- What the table answers and writes, in the words of 01, sections 'Network, table, plan' and 'Where a paper is sent back'. Definitions only,
 -- and all that a reader of the promise needs besides `temporal`'s rules, tickets and distances.
 use Prim.Native.Nat.{ℕ, zero, suc, _+_, _*_}
-use mathlib.Core.Bool.{Bool, cond, _||_}
+use mathlib.Core.Bool.{cond, _||_}
 use mathlib.Core.List.{List, [], _∷_, _++_}
 use lib.Dec.{ltb, eqb}
 use lib.IntN.{ℤ, pos, negsuc}

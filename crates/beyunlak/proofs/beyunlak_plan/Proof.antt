@@ -1,6 +1,6 @@
 -- `beyunlak::beyunlak_plan` meets its contract: what `plan::plan` ensures, where the scratch is 8,192 zeros. Assumes nothing.
 use Prim.Native.Nat.{ℕ}
-use mathlib.Core.Path.{_≡_, ap, _∙_}
+use mathlib.Core.Path.{ap, _∙_}
 use mathlib.Core.List.{List}
 use borrow.Author.Needs.{needs}
 use Rattle.plan.specs.Calls.{planning}

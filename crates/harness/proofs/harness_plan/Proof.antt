@@ -1,5 +1,5 @@
 -- `harness::harness_plan` meets its contract: what `plan::plan` ensures, with its length in 32 bits. Assumes nothing.
-use mathlib.Core.Path.{_≡_, ap, _∙_}
+use mathlib.Core.Path.{ap, _∙_}
 use borrow.Author.Needs.{needs}
 use Rattle.plan.specs.declared.Answer.{Answer}
 use Rattle.harness.specs.Rewriting.{narrow}

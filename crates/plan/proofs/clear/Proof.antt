@@ -7,8 +7,6 @@ use lib.ListN.{length, set}
 use Rattle.plan.specs.Zeroed.{zeroed, zeroed-none, zeroed-more, zeroed-length}
 use Rattle.plan.proofs.clear.Statement.{statement}
 use Rattle.plan.proofs.clear.Tie as tie
-use Rattle.plan.proofs.clear.Reads as reads
-use Rattle.plan.proofs.clear.Lts as lts
 
 abbrev Inv-loop : tie.InvT-loop
 Inv-loop scratch₀ i₀ scratch i = (i ≤ 8192) × (8192 ≤ length scratch₀) × (scratch ≡ zeroed i scratch₀)

@@ -3,8 +3,6 @@ use borrow.Author.Needs.{needs}
 use borrow.Author.Tests.{lt-ltb, le-ltb, eq-eqb, ne-eqb}
 use Rattle.plan.proofs.first_cause.Statement.{statement}
 use Rattle.plan.proofs.first_cause.Tie as tie
-use Rattle.plan.proofs.first_cause.Reads as reads
-use Rattle.plan.proofs.first_cause.Lts as lts
 
 returns : tie.Need-returns
 returns c = search needs

@@ -1,5 +1,4 @@
 -- `first_example` meets its contract. Assumes nothing.
-use native.Mathlib.Omega.{arith}
 use borrow.Author.Needs.{needs}
 use Prim.Native.Nat.{_-_, _≤_}
 use Rattle.table_main.proofs.first_example.Statement.{statement}

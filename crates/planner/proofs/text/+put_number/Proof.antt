@@ -1,14 +1,13 @@
 -- `planner::text::put_number` meets its contract, and ends since a tenth of a number above 9 is less than it. Assumes nothing.
-use Prim.Native.Nat.{ℕ, _<_, _+_, _/_, _%_}
-use mathlib.Core.Path.{_≡_, refl, sym, ap, subst, _∙_}
-use mathlib.Core.List.{List, [], _∷_}
+use Prim.Native.Nat.{ℕ, _<_, _+_}
+use mathlib.Core.Path.{ap, _∙_}
 use native.Mathlib.Omega.{arith}
 use borrow.Author.Needs.{needs}
 use borrow.Fn.Kinds.{In}
 use borrow.Fn.PlainCycle.{Measures, is, falls, and}
 use lib.ListN.{length, length-append}
-use Rattle.planner.specs.Text.{decimal, decimal-short, decimal-long}
-use Rattle.planner.specs.Stores.{Puts, puts-then, puts-length}
+use Rattle.planner.specs.Text.{decimal-short, decimal-long}
+use Rattle.planner.specs.Stores.{puts-then, puts-length}
 use Rattle.planner.proofs.text.put_number.Reads as put-number
 use Rattle.planner.proofs.text.put_number.Kinds as put-number-kinds
 use Rattle.planner.proofs.text.+put_number.Lts-put_number as put-number-lts

@@ -1,6 +1,5 @@
 -- `planner::text::print` meets its contract: what planning refuses is printed as refused, and otherwise the record that it wrote is read and
 -- printed. Assumes nothing.
-use Prim.Native.Nat.{ℕ}
 use mathlib.Core.Path.{_≡_, sym, ap, _∙_}
 use mathlib.Core.Bool.{true}
 use native.Mathlib.Omega.{arith}

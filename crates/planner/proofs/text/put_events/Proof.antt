@@ -1,9 +1,7 @@
 -- `planner::text::put_events` meets its contract. The invariant: the lines of the first i events are put, 44 bytes each at most. Assumes nothing.
-use Prim.Native.Nat.{ℕ, _+_, _*_, _-_, _≤_}
-use mathlib.Core.Path.{_≡_, ap}
+use Prim.Native.Nat.{_+_, _*_, _-_, _≤_}
+use mathlib.Core.Path.{_≡_}
 use native.Mathlib.Omega.{arith}
-use borrow.Author.Needs.{needs}
-use lib.ListN.{length}
 use Rattle.planner.specs.Text.{each, each-none, each-more, lineAt}
 use Rattle.planner.specs.Stores.{Puts, puts-none, puts-then, puts-length}
 use Rattle.planner.proofs.text.put_events.Statement.{statement}

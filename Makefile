@@ -1,0 +1,25 @@
+# make           the library and the program, proved and built
+# make plan      the plan of $(TICKET), a ticket as text
+# make install   the header, the library and the pkg-config file, under $(PREFIX)
+PREFIX = /usr/local
+TICKET = examples/tickets/p1.txt
+
+all: library program
+
+library:
+	rt staticlib beyunlak
+
+program:
+	rt check planner
+
+plan: program
+	tools/ticket encode $(TICKET) target/ticket
+	target/bin/planner <target/ticket
+
+install: library
+	install -d $(DESTDIR)$(PREFIX)/include $(DESTDIR)$(PREFIX)/lib/pkgconfig
+	install -m 644 include/beyunlak.h $(DESTDIR)$(PREFIX)/include
+	install -m 644 target/staticlib/libbeyunlak.a $(DESTDIR)$(PREFIX)/lib
+	sed 's,@PREFIX@,$(PREFIX),' beyunlak.pc.in >$(DESTDIR)$(PREFIX)/lib/pkgconfig/beyunlak.pc
+
+.PHONY: all library program plan install
