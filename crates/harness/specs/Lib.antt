@@ -1,1 +1,2 @@
+-- What the test exports promise beyond the calls that they pass on: a ticket or a record read and written again.
 pub mod Rewriting

@@ -31,16 +31,16 @@ abbrev pub cleared : List ℕ → List ℕ
 cleared scratch = zeroed 8192 scratch
 
 -- 10 leaves output and scratch as they were
-abbrev pub tooShort : List ℕ → List ℕ → Outcome
-tooShort out scratch = record { number = 10; length = 0; total = 0; out = out; scratch = scratch }
+abbrev pub withoutRoom : List ℕ → List ℕ → Outcome
+withoutRoom out scratch = record { number = 10; length = 0; total = 0; out = out; scratch = scratch }
 
 -- every other refusal leaves the output as it was
-abbrev pub sentBack : ℕ → List ℕ → List ℕ → Outcome
-sentBack r out scratch = record { number = r; length = 0; total = 0; out = out; scratch = cleared scratch }
+abbrev pub refusing : ℕ → List ℕ → List ℕ → Outcome
+refusing r out scratch = record { number = r; length = 0; total = 0; out = out; scratch = cleared scratch }
 
 -- the record's bytes stand at the start of the output, and what lies after them is as it was
-abbrev pub handedOut : State → List ℕ → List ℕ → Outcome
-handedOut s out scratch =
+abbrev pub accepting : State → List ℕ → List ℕ → Outcome
+accepting s out scratch =
     record {
       number = 0;
       length = length (writeState s);
@@ -50,18 +50,18 @@ handedOut s out scratch =
     }
 
 abbrev pub answered : List ℕ → List ℕ → Answer → Outcome
-answered out scratch (Answer.refused r) = sentBack r out scratch
-answered out scratch (Answer.accepted s) = handedOut s out scratch
+answered out scratch (Answer.refused r) = refusing r out scratch
+answered out scratch (Answer.accepted s) = accepting s out scratch
 
 -- a reading that is refused answers the number of its cause; what was read goes on to `decide`
 abbrev pub afterReading : {A : Type 0} → List ℕ → List ℕ → (A → Answer) → Out A → Outcome
 afterReading out scratch decide (Out.got x rest) = answered out scratch (decide x)
-afterReading out scratch decide (Out.refused cause) = sentBack (number cause) out scratch
+afterReading out scratch decide (Out.refused cause) = refusing (number cause) out scratch
 
 -- ---- the two calls: 10 is tested first, then the bytes are read, to their end, then it is decided
 
 unfoldable pub planning : (ticket out scratch : List ℕ) → Outcome
-planning ticket out scratch = cond (room out scratch) (afterReading out scratch plan (wholly readTicket ticket)) (tooShort out scratch)
+planning ticket out scratch = cond (room out scratch) (afterReading out scratch plan (wholly readTicket ticket)) (withoutRoom out scratch)
 
 -- a commitment to an event, an open and a close, with room
 abbrev pub asking : (event opens closes : ℕ) → Commitment
@@ -71,12 +71,12 @@ unfoldable pub committing : (bytes : List ℕ) (event opens closes : ℕ) (out s
 committing bytes event opens closes out scratch =
     cond (room out scratch)
     (afterReading out scratch (λ (s : State). commit s (asking event opens closes)) (wholly readState bytes))
-    (tooShort out scratch)
+    (withoutRoom out scratch)
 
 -- ---- the same by cases
 
 module _ (ticket out scratch : List ℕ) where
-  pub planning-short : room out scratch ≡ false → planning ticket out scratch ≡ tooShort out scratch
+  pub planning-short : room out scratch ≡ false → planning ticket out scratch ≡ withoutRoom out scratch
   unfolding planning
   planning-short e = rw e
 
@@ -85,7 +85,7 @@ module _ (ticket out scratch : List ℕ) where
   planning-read e = rw e
 
 module _ (bytes : List ℕ) (event opens closes : ℕ) (out scratch : List ℕ) where
-  pub committing-short : room out scratch ≡ false → committing bytes event opens closes out scratch ≡ tooShort out scratch
+  pub committing-short : room out scratch ≡ false → committing bytes event opens closes out scratch ≡ withoutRoom out scratch
   unfolding committing
   committing-short e = rw e
 

@@ -14,7 +14,7 @@ use Rattle.ticket.specs.Parser.{got, number, little, many, wholly}
 use Rattle.ticket.specs.Format.{readTicket, readOwner, readRule, readState, readWindow}
 use Rattle.ticket.specs.Writer.{bytes, each, entries, writeRule, writeTicket, writeWindow, writeState}
 use Rattle.ticket.specs.Writing.{over}
-use Rattle.plan.specs.Calls.{Outcome, room, cleared, sentBack, answered, afterReading, asking, planning, planning-read, committing, committing-read}
+use Rattle.plan.specs.Calls.{Outcome, room, cleared, refusing, answered, afterReading, asking, planning, planning-read, committing, committing-read}
 
 -- ---- how an example is written
 
@@ -24,7 +24,7 @@ pub data Call : Type 0 where
 
 -- a refusal's number, or the bytes written and the total returned
 pub data Reply : Type 0 where
-  sends-back : ℕ → Reply
+  refuses : ℕ → Reply
   writes : (written : List ℕ) (total : ℕ) → Reply
 
 abbrev pub outcome : Call → List ℕ → List ℕ → Outcome
@@ -32,7 +32,7 @@ outcome (plans ticket) out scratch = planning ticket out scratch
 outcome (commits given event opens closes) out scratch = committing given event opens closes out scratch
 
 abbrev pub expected : Reply → List ℕ → List ℕ → Outcome
-expected (sends-back r) out scratch = sentBack r out scratch
+expected (refuses r) out scratch = refusing r out scratch
 expected (writes written t) out scratch = record { number = 0; length = length written; total = t; out = over written out; scratch = cleared scratch }
 
 -- one row: the number of the example in 01, the call, what it answers
@@ -104,11 +104,11 @@ examples =
     ∷ example 4 (plans bytes4) (writes record4 5)
     ∷ example 5 (commits record4 1 2 2) (writes (bytes4 ++ (two 3 ++ (window 1 2 2 ++ (window 0 0 2 ++ (window 0 0 0 ++ two 1))))) 2)
     ∷ example 6 (plans (bytes6 1)) (writes (bytes6 1 ++ (two 2 ++ (window 0 1 1 ++ (window 0 0 0 ++ two 0)))) 0)
-    ∷ example 6 (plans (bytes6 0)) (sends-back 9)
+    ∷ example 6 (plans (bytes6 0)) (refuses 9)
     ∷ example 7 (plans (bytes7 10)) (writes (bytes7 10 ++ (two 1 ++ (window 0 10 10 ++ two 0))) 0)
-    ∷ example 7 (plans (bytes7 11)) (sends-back 9)
+    ∷ example 7 (plans (bytes7 11)) (refuses 9)
     ∷ example 8 (plans bytes8) (writes (bytes8 ++ (two 0 ++ two 0)) 0)
-    ∷ example 9 (plans []) (sends-back 1)
+    ∷ example 9 (plans []) (refuses 1)
     ∷ example 10 (plans bytes10) (writes (bytes10 ++ (two 2 ++ (window 0 0 5 ++ (window 0 0 5 ++ two 0)))) 10)
     ∷ []
 
@@ -124,7 +124,7 @@ module _ (ticket : List ℕ) {k : Ticket} (read : wholly readTicket ticket ≡ g
   plans-writes {s} written t p w q =
       planning-read ticket out scratch e ∙ ap (afterReading out scratch plan) read ∙ ap (answered out scratch) p ∙ answered-as s written t out scratch w q
 
-  plans-refused : {r : ℕ} → plan k ≡ refused r → planning ticket out scratch ≡ expected (sends-back r) out scratch
+  plans-refused : {r : ℕ} → plan k ≡ refused r → planning ticket out scratch ≡ expected (refuses r) out scratch
   plans-refused p = planning-read ticket out scratch e ∙ ap (afterReading out scratch plan) read ∙ ap (answered out scratch) p
 
 module _ (given : List ℕ) {s : State} (read : wholly readState given ≡ got s []) (event opens closes : ℕ) (out scratch : List ℕ) (e : room out scratch ≡ true) where

@@ -21,7 +21,7 @@ use Rattle.ticket.specs.Answers.{was-refused, was-got}
 use Rattle.ticket.specs.declared.ReadTicket.{ReadTicket}
 use Rattle.ticket.specs.declared.ReadRecord.{ReadRecord}
 use Rattle.plan.specs.Zeroed.{zeroed, past, zeroed-rest}
-use Rattle.plan.specs.Calls.{Outcome, room, cleared, tooShort, answered, afterReading}
+use Rattle.plan.specs.Calls.{Outcome, room, cleared, withoutRoom, answered, afterReading}
 use Rattle.plan.specs.Structs.{ticketOf, stateOf, ticket-of, state-of, Kept, kept-read}
 use Rattle.plan.specs.Returned.{returned}
 use Rattle.plan.specs.declared.Answer.{Answer}
@@ -133,7 +133,7 @@ enough-room out scratch l m = rw (le-leb 1948 (length out) l, le-leb 8192 (lengt
 abbrev pub Whole : Outcome → Answer → List ℕ → List ℕ → Type 0
 Whole o a out scratch = (a ≡ returned o) × ((out ≡ o .out) × (scratch ≡ o .scratch))
 
-pub whole-short : (out scratch : List ℕ) {whole : Outcome} {a : Answer} → whole ≡ tooShort out scratch → a ≡ record { number = 10; length = 0; total = 0 } → Whole whole a out scratch
+pub whole-short : (out scratch : List ℕ) {whole : Outcome} {a : Answer} → whole ≡ withoutRoom out scratch → a ≡ record { number = 10; length = 0; total = 0 } → Whole whole a out scratch
 whole-short out scratch e q = (q ∙ ap returned (sym e), (ap (λ (o : Outcome). o .out) (sym e), ap (λ (o : Outcome). o .scratch) (sym e)))
 
 clears : (out scratch : List ℕ) (d : Decision) → answered out scratch d .scratch ≡ cleared scratch

@@ -22,7 +22,7 @@ use Rattle.ticket.specs.Format.{readTicket, readState}
 use Rattle.ticket.specs.Writer.{writeTicket, writeState}
 use Rattle.ticket.specs.Writing.{over}
 use Rattle.ticket.specs.RoundTrip.{Bytes, read-written-state, read-written, written-read, written-read-state}
-use Rattle.plan.specs.Calls.{Outcome, room, tooShort, handedOut, answered, afterReading, asking, planning, planning-short, planning-read, committing-short, committing-read}
+use Rattle.plan.specs.Calls.{Outcome, room, withoutRoom, accepting, answered, afterReading, asking, planning, planning-short, planning-read, committing-short, committing-read}
 use Rattle.plan.specs.Run.{Call, asks, outcome, written, Holds, Claim, Planned, Unplanned, Start, planned, given, Run}
 
 answered-number : (out scratch : List ℕ) (a : Answer) → answered out scratch a .number ≡ decided a
@@ -31,7 +31,7 @@ answered-number out scratch (Answer.accepted s) = refl
 
 -- ---- what is written is read again
 
-holds-written : (s : State) → Readable s → (out scratch : List ℕ) → Holds (written (handedOut s out scratch)) s
+holds-written : (s : State) → Readable s → (out scratch : List ℕ) → Holds (written (accepting s out scratch)) s
 unfolding over
 holds-written s r out scratch =
     ap (wholly readState) (take-at (writeState s) (drop (length (writeState s)) out) (length (writeState s)) refl) ∙ read-written-state s r
@@ -63,10 +63,10 @@ module _ (current : List ℕ) (now : State) (holds : Holds current now) (c : Cal
       by true e = ap (λ (o : Outcome). o .number) (roomy e) ∙ answered-number (c .out) (c .scratch) (commit now (asks c))
       by false e = short e ∙ ap decided (sym (short-refused e))
 
-  outcome-accepted : (next : State) → commit now (asks c) ≡ Answer.accepted next → outcome current c ≡ handedOut next (c .out) (c .scratch)
+  outcome-accepted : (next : State) → commit now (asks c) ≡ Answer.accepted next → outcome current c ≡ accepting next (c .out) (c .scratch)
   outcome-accepted next q = by (room (c .out) (c .scratch)) refl
     where
-      by : (b : Bool) → room (c .out) (c .scratch) ≡ b → outcome current c ≡ handedOut next (c .out) (c .scratch)
+      by : (b : Bool) → room (c .out) (c .scratch) ≡ b → outcome current c ≡ accepting next (c .out) (c .scratch)
       by true e = roomy e ∙ ap (answered (c .out) (c .scratch)) q
       by false e = absurd (omega (arith, ap decided (sym (short-refused e) ∙ q)))
 
@@ -116,7 +116,7 @@ claim start done current now (c ∷ cs) holds h =
       ),
     )
       where
-        same : outcome current c ≡ handedOut next (c .out) (c .scratch)
+        same : outcome current c ≡ accepting next (c .out) (c .scratch)
         same = outcome-accepted current now holds c next e
 
 -- ---- planning
@@ -128,7 +128,7 @@ module _ (ticket out scratch : List ℕ) where
       (o .number ≢ 0 → Unplanned ticket out scratch (o .number))
       × (o .number ≡ 0 → (s : State) × Planned ticket o s × Claim s [] (written o) s cs)
 
-  start-short : (cs : List Call) → room out scratch ≡ false → Start-claimed cs (tooShort out scratch)
+  start-short : (cs : List Call) → room out scratch ≡ false → Start-claimed cs (withoutRoom out scratch)
   unfolding Start-claimed
   start-short cs e = (
     λ n. record {
@@ -199,7 +199,7 @@ module _ (ticket out scratch : List ℕ) where
             chosen = subst (λ (k′ : Ticket). Chosen k′ (Fit k′) (s .windows)) (sym (g .0)) (g .3);
             sum = refl;
           },
-          claim s [] (written (handedOut s out scratch)) s cs (holds-written s (place-of s [] s (map asks cs) (g .4) .readable) out scratch) (g .4),
+          claim s [] (written (accepting s out scratch)) s cs (holds-written s (place-of s [] s (map asks cs) (g .4) .readable) out scratch) (g .4),
         ),
       )
 

@@ -165,14 +165,14 @@ commit-refused s c {k} e n = rw (← e, ne-eqb k 0 n)
 pub lies-asked : {r : Record} {a : Arrays} → a ≡ arraysOf (r .ticket) → Kept r → Valid (ticketIn a) × Lie a (r .opens) (r .closes)
 lies-asked {r} {a} e ok = subst (λ b. Valid (ticketIn b) × Lie b (r .opens) (r .closes)) (sym e) (ok .readable .valid, kept-lies r ok)
 
--- ---- the record handed out
+-- ---- the record written
 
-pub handed : (out : List ℕ) {r : Record} {a : Arrays} {w : Written} {x : ℕ} {out′ : List ℕ} → Kept r → 1948 ≤ length out → a ≡ arraysOf (r .ticket)
+pub written-out : (out : List ℕ) {r : Record} {a : Arrays} {w : Written} {x : ℕ} {out′ : List ℕ} → Kept r → 1948 ≤ length out → a ≡ arraysOf (r .ticket)
     → x ≡ total (ticketIn a) (windowList (a .events) (r .opens) (r .closes)) → w ≡ recordWritten out r → out′ ≡ recordOutput out r
     → _≡_ {A = Answer} (record { number = 0; length = w .length; total = x })
     (record { number = 0; length = length (writeState (stateOf r)); total = total (stateOf r .ticket) (stateOf r .windows) })
     × (out′ ≡ over (writeState (stateOf r)) out)
-handed out {r} {a} {w} {x} ok l e q p h =
+written {r} {a} {w} {x} ok l e q p h =
     let k = kept-written r ok out l in
     let n = ap (λ (y : Written). y .length) p ∙ k .0 in
     let m = q ∙ ap (λ (b : Arrays). total (ticketIn b) (windowList (b .events) (r .opens) (r .closes))) e in

@@ -159,7 +159,7 @@ fn cause(r: ticket::Record, event: u32, opens: u32, closes: u32) -> u32
 }
 
 // Write the record into the output.
-fn hand_out(r: ticket::Record, out: &mut [u8]) -> Answer
+fn write_out(r: ticket::Record, out: &mut [u8]) -> Answer
     requires { ⌜ Kept r × (1948 ≤ length (now out)) ⌝ }
     ensures { λ a. ⌜ a ≡ record {
       number = 0;
@@ -200,7 +200,7 @@ fn plan_ticket(t: ticket::Ticket, out: &mut [u8], scratch: &mut [u32]) -> Answer
         closes,
         number: 0,
     };
-    hand_out(r, out)
+    write_out(r, out)
 }
 
 // Plan the ticket that the bytes hold.
@@ -286,7 +286,7 @@ fn commit_record(
         return refusal(refused);
     }
     let next = commit_event(r, event, opens, closes, scratch);
-    hand_out(next, out)
+    write_out(next, out)
 }
 
 // Commit to the record that the bytes hold.

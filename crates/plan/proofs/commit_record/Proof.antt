@@ -20,8 +20,8 @@ returns c = meets-refused (c .before .before .before .before .before .args .out 
 commit-event-requires : tie.Need-commit-event-requires
 commit-event-requires c κs = search needs
 
-hand-out-requires : tie.Need-hand-out-requires
-hand-out-requires c κs = search needs
+write-out-requires : tie.Need-write-out-requires
+write-out-requires c κs = search needs
 
 same-length : tie.Need-same-length
 same-length c = search needs
@@ -30,7 +30,7 @@ same-length-2 : tie.Need-same-length-2
 same-length-2 c = search needs
 
 returns-2 : tie.Need-returns-2
-returns-2 c = meets-accepted (c .before .before .before .before .before .before .before .before .before .before .before .before .args .out .now) (c .before .before .before .before .before .before .commit-event .ensures .0 .1) (c .before .before .hand-out .ensures .0) (c .before .before .hand-out .ensures .1) (c .before .before .before .before .before .before .commit-event .ensures .1)
+returns-2 c = meets-accepted (c .before .before .before .before .before .before .before .before .before .before .before .before .args .out .now) (c .before .before .before .before .before .before .commit-event .ensures .0 .1) (c .before .before .write-out .ensures .0) (c .before .before .write-out .ensures .1) (c .before .before .before .before .before .before .commit-event .ensures .1)
 
 pub commit-record-spec : {M : Type 1} → statement M
 commit-record-spec =
@@ -40,7 +40,7 @@ commit-record-spec =
     refusal-requires
     returns
     commit-event-requires
-    hand-out-requires
+    write-out-requires
     same-length
     same-length-2
     returns-2)

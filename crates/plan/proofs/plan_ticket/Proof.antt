@@ -1,4 +1,4 @@
--- `plan::plan_ticket` meets its contract: `windows` decides, and the record is handed out. Assumes nothing.
+-- `plan::plan_ticket` meets its contract: `windows` decides, and the record is written. Assumes nothing.
 use mathlib.Core.Path.{refl, sym, _∙_}
 use native.Mathlib.Omega.{arith}
 use borrow.Author.Tests.{not-true, not-false}
@@ -33,8 +33,8 @@ returns c =
     meets-refused (c .before .before .before .before .before .before .before .before .before .before .before .args .out .now) (planned-none (c .before .before .before .before .before .before .before .arrays .ensures) (c .before .before .before .before .plan-windows .ensures .0) (not-true _ (c .before .if1 .taken))) (c .refusal .ensures)
     (past-part 8192 1824 (c .before .before .before .before .before .before .before .before .before .before .before .args .scratch .now) (c .before .before .before .before .plan-windows .last .0) (omega arith) (c .before .before .before .before .plan-windows .ensures .1 ∙ length-take-le 1824 (c .before .before .before .before .before .before .before .before .before .before .before .args .scratch .now) (omega (arith, c .before .before .before .before .before .before .before .before .before .before .before .pre .1))))
 
-hand-out-requires : tie.Need-hand-out-requires
-hand-out-requires c κs = (kept-planned (c .before .before .before .before .before .before .before .arrays .ensures) (c .before .before .before .before .plan-windows .ensures .0) (c .before .before .before .before .before .before .before .before .before .before .before .pre .0 .0) (c .before .before .before .before .before .before .before .before .before .before .before .pre .0 .1) refl refl (not-false _ (c .before .if1 .left)), c .before .before .before .before .before .before .before .before .before .before .before .pre .1 .0)
+write-out-requires : tie.Need-write-out-requires
+write-out-requires c κs = (kept-planned (c .before .before .before .before .before .before .before .arrays .ensures) (c .before .before .before .before .plan-windows .ensures .0) (c .before .before .before .before .before .before .before .before .before .before .before .pre .0 .0) (c .before .before .before .before .before .before .before .before .before .before .before .pre .0 .1) refl refl (not-false _ (c .before .if1 .left)), c .before .before .before .before .before .before .before .before .before .before .before .pre .1 .0)
 
 same-length-2 : tie.Need-same-length-2
 same-length-2 c = search needs
@@ -44,7 +44,7 @@ same-length-3 c = search needs
 
 returns-2 : tie.Need-returns-2
 returns-2 c =
-    meets-accepted (c .before .before .before .before .before .before .before .before .before .before .before .before .before .before .args .out .now) (planned-some (c .before .before .before .before .before .before .before .before .before .before .arrays .ensures) (c .before .before .before .before .before .before .before .plan-windows .ensures .0) (not-false _ (c .before .before .before .before .if1 .left))) (c .before .before .hand-out .ensures .0) (c .before .before .hand-out .ensures .1)
+    meets-accepted (c .before .before .before .before .before .before .before .before .before .before .before .before .before .before .args .out .now) (planned-some (c .before .before .before .before .before .before .before .before .before .before .arrays .ensures) (c .before .before .before .before .before .before .before .plan-windows .ensures .0) (not-false _ (c .before .before .before .before .if1 .left))) (c .before .before .write-out .ensures .0) (c .before .before .write-out .ensures .1)
     (past-part 8192 1824 (c .before .before .before .before .before .before .before .before .before .before .before .before .before .before .args .scratch .now) (c .before .before .before .before .before .before .before .plan-windows .last .0) (omega arith) (c .before .before .before .before .before .before .before .plan-windows .ensures .1 ∙ length-take-le 1824 (c .before .before .before .before .before .before .before .before .before .before .before .before .before .before .args .scratch .now) (omega (arith, c .before .before .before .before .before .before .before .before .before .before .before .before .before .before .pre .1))))
 
 pub plan-ticket-spec : {M : Type 1} → statement M
@@ -58,7 +58,7 @@ plan-ticket-spec =
     refusal-requires
     same-length
     returns
-    hand-out-requires
+    write-out-requires
     same-length-2
     same-length-3
     returns-2)
