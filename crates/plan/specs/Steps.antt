@@ -172,7 +172,7 @@ pub written-out : (out : List ℕ) {r : Record} {a : Arrays} {w : Written} {x : 
     → _≡_ {A = Answer} (record { number = 0; length = w .length; total = x })
     (record { number = 0; length = length (writeState (stateOf r)); total = total (stateOf r .ticket) (stateOf r .windows) })
     × (out′ ≡ over (writeState (stateOf r)) out)
-written {r} {a} {w} {x} ok l e q p h =
+written-out out {r} {a} {w} {x} ok l e q p h =
     let k = kept-written r ok out l in
     let n = ap (λ (y : Written). y .length) p ∙ k .0 in
     let m = q ∙ ap (λ (b : Arrays). total (ticketIn b) (windowList (b .events) (r .opens) (r .closes))) e in
