@@ -1,4 +1,5 @@
-// Nanoseconds of processor time a plan and a commitment take, by structure and size, for the library and its peers, in one run.
+// Nanoseconds of processor time a plan and a commitment take, by structure and size, for the library and its
+// peers, in one run.
 // Every solver has to give the same windows; one that does not is reported and fails the run.
 #include <algorithm>
 #include <cmath>
@@ -38,8 +39,8 @@ struct Solver {
 };
 
 int wrong_answers = 0;
-int repeats = 3;
-double least_seconds = 0.02;
+int repeats = 5;
+double least_seconds = 0.01;
 
 Windows solve_by_peer(const Peer &peer, const Call &call) { return peer.solve(make_network(call.ticket, call.ranges)); }
 
@@ -130,31 +131,27 @@ double processor_seconds() {
     return static_cast<double>(time.tv_sec) + 1e-9 * static_cast<double>(time.tv_nsec);
 }
 
-// Least mean time of a call over some repeats, in nanoseconds.
+// Mean time of a call, in nanoseconds.
 double measure(const Solver &solver, const std::vector<Call> &calls, bool commit) {
-    double best = 1e18;
-    for (int repeat = 0; repeat < repeats; repeat++) {
-        const double start = processor_seconds();
-        size_t count = 0;
-        double seconds = 0;
-        do {
-            for (const Call &call : calls) solver.solve(call, commit);
-            count += calls.size();
-            seconds = processor_seconds() - start;
-        } while (seconds < least_seconds);
-        best = std::min(best, 1e9 * seconds / static_cast<double>(count));
-    }
-    return best;
+    const double start = processor_seconds();
+    size_t count = 0;
+    double seconds = 0;
+    do {
+        for (const Call &call : calls) solver.solve(call, commit);
+        count += calls.size();
+        seconds = processor_seconds() - start;
+    } while (seconds < least_seconds);
+    return 1e9 * seconds / static_cast<double>(count);
 }
 
-// One line of the table: times, and for the peers how often the first solver's time.
+// One line of the table: the least of some means, taken in turn; for the peers how often the first solver's time.
 std::vector<double> row(const std::vector<Solver> &list, const std::string &name, int events, size_t rules,
                         const std::vector<Call> &calls, bool commit) {
-    std::vector<double> times;
+    std::vector<double> times(list.size(), 1e18);
     const std::string where = name + " n " + std::to_string(events) + (commit ? " commitment" : " plan");
-    for (const Solver &solver : list) {
-        check(solver, calls, commit, where);
-        times.push_back(measure(solver, calls, commit));
+    for (const Solver &solver : list) check(solver, calls, commit, where);
+    for (int repeat = 0; repeat < repeats; repeat++) {
+        for (size_t k = 0; k < list.size(); k++) times[k] = std::min(times[k], measure(list[k], calls, commit));
     }
     std::printf("| %-10s | %2d | %3zu |", name.c_str(), events, rules);
     for (size_t k = 0; k < times.size(); k++) {
