@@ -49,7 +49,8 @@
  *   - `out` does not overlap the ticket or the record. To commit again, swap two buffers (see below).
  *   - While a call runs, nobody else writes its input or touches its output.
  *   Calls in several threads need no lock where each has memory of its own. Both functions end after a
- *   bounded number of steps, whatever bytes they are given, and use less than 64 kilobytes of stack.
+ *   bounded number of steps, whatever bytes they are given, and use less than 64 kilobytes of stack (measured;
+ *   it depends on how the library was compiled).
  *   Bytes from a stranger are safe: they are refused or planned, and never read or written past their length.
  *
  * EXAMPLE (examples/host.c is a whole program)
