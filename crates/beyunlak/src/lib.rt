@@ -2,7 +2,7 @@
 // Each holds the scratch that crate `plan` is lent, so that number 10 says that the output is too short.
 ghost use mathlib.Core.Path.{_≡_};
 ghost use lib.ListN.{replicate};
-ghost use Rattle.plan.specs.Calls.{planning, committing};
+ghost use Rattle.runs.specs.Calls.{planning, committing};
 
 // The scratch of a call; as a call's result it is no list of 8,192 literals in the proofs.
 fn scratch() -> [u32; 8192]

@@ -6,7 +6,7 @@ ghost use lib.ListN.{length};
 ghost use Rattle.ticket.specs.Format.{readTicket, readState};
 ghost use Rattle.table.specs.Table.{tableOf};
 ghost use Rattle.table.specs.Rules.{rulesOf};
-ghost use Rattle.plan.specs.Calls.{planning, committing};
+ghost use Rattle.runs.specs.Calls.{planning, committing};
 ghost use Rattle.harness.specs.Rewriting.{rewriting};
 ghost use Rattle.harness.specs.Rewriting.{narrow as Rewriting·narrow};
 

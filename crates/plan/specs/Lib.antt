@@ -1,11 +1,10 @@
--- Planning and commitment on bytes. To believe: Calls (the two calls as functions of all they are lent; Zeroed is the scratch after a call), Run (what
--- 01's section "A run" claims) and Examples (P1 to P10). The theorems: RunHolds.run answers demand 3, Examples.examples-hold the table of examples.
--- The code's contracts in src/lib.rt are equations with Calls, through Returned; Structs, Steps and Meets are the laws that their proofs cite.
+-- Laws for the proofs of the code in src/lib.rt. What the two calls mean stands in crate `runs` (Calls), with the theorem over runs.
+--   Returned  the part of an outcome that the answer struct holds: the contracts are equations through it
+--   Structs   what the structs of `ticket` hold, and the records that the code hands on
+--   Steps     one planning and one commitment as the code takes them
+--   Zeroed    clearing the scratch
+--   Meets     what the inner functions leave before the scratch is cleared
 pub mod Zeroed
-pub mod Calls
-pub mod Run
-pub mod RunHolds
-pub mod Examples
 pub mod Returned
 pub mod Structs
 pub mod Steps

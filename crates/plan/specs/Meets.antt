@@ -1,10 +1,8 @@
 -- What the code's inner functions leave, as far as it is settled before the scratch is cleared: the answer, the output, and the scratch past its first 8,192 numbers.
 -- The laws follow the code: a refusal, an accepted call, a reading, and the two doors.
 use mathlib.Core.Path.{_≡_, refl, sym, ap, subst, _∙_}
-use mathlib.Core.Bool.{true, false}
 use mathlib.Core.List.{List}
-use Prim.Native.Nat.{ℕ, _≤_, _<_}
-use borrow.Author.Tests.{le-leb, lt-leb}
+use Prim.Native.Nat.{ℕ}
 use lib.ListN.{length}
 use Rattle.temporal.specs.Ticket as temporal
 use Rattle.temporal.specs.Ticket.{total}
@@ -20,8 +18,8 @@ use Rattle.ticket.specs.RoundTrip.{Bytes, written-read, written-read-state}
 use Rattle.ticket.specs.Answers.{was-refused, was-got}
 use Rattle.ticket.specs.declared.ReadTicket.{ReadTicket}
 use Rattle.ticket.specs.declared.ReadRecord.{ReadRecord}
-use Rattle.plan.specs.Zeroed.{zeroed, past, zeroed-rest}
-use Rattle.plan.specs.Calls.{Outcome, room, cleared, withoutRoom, answered, afterReading}
+use Rattle.plan.specs.Zeroed.{past, zeroed-rest}
+use Rattle.runs.specs.Calls.{Outcome, zeroed, cleared, withoutRoom, answered, afterReading}
 use Rattle.plan.specs.Structs.{ticketOf, stateOf, ticket-of, state-of, Kept, kept-read}
 use Rattle.plan.specs.Returned.{returned}
 use Rattle.plan.specs.declared.Answer.{Answer}
@@ -116,18 +114,6 @@ module _ (bytes : List ℕ) {x : ReadRecord} (e : x ≡ wholeRecord bytes) (deci
         (ap (λ s. answered out scratch (decide s)) (ap stateOf struct-state ∙ state-of (read-state .0) readable) ∙ ap (afterReading out scratch decide) (sym (read-state .2))) m
 
 -- ---- the doors
-
-pub no-room-out : (out scratch : List ℕ) → length out < 1948 → room out scratch ≡ false
-unfolding room
-no-room-out out scratch l = rw (lt-leb 1948 (length out) l)
-
-pub no-room-scratch : (out scratch : List ℕ) → 1948 ≤ length out → length scratch < 8192 → room out scratch ≡ false
-unfolding room
-no-room-scratch out scratch l m = rw (le-leb 1948 (length out) l, lt-leb 8192 (length scratch) m)
-
-pub enough-room : (out scratch : List ℕ) → 1948 ≤ length out → 8192 ≤ length scratch → room out scratch ≡ true
-unfolding room
-enough-room out scratch l m = rw (le-leb 1948 (length out) l, le-leb 8192 (length scratch) m)
 
 -- all that a call answers and leaves
 abbrev pub Whole : Outcome → Answer → List ℕ → List ℕ → Type 0

@@ -1,5 +1,5 @@
 -- The part of an outcome that the code's answer holds.
-use Rattle.plan.specs.Calls.{Outcome}
+use Rattle.runs.specs.Calls.{Outcome}
 use Rattle.plan.specs.declared.Answer.{Answer}
 
 abbrev pub returned : Outcome → Answer

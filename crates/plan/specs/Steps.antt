@@ -11,7 +11,7 @@ use lib.Dec.{eqb, ltb}
 use lib.ListN.{length, set, replicate}
 use lib.Seq.{getD-set-same, getD-set-other}
 use Rattle.temporal.specs.Ticket.{Ticket, fits, total}
-use Rattle.temporal.specs.Plan.{State, Commitment, accepted, refused, plan, cause, commit}
+use Rattle.temporal.specs.Plan.{State, Commitment, accepted, refused, plan, cause, commit, asking}
 use Rattle.temporal.specs.Run.{Valid, Readable, Event}
 use Rattle.temporal.specs.Run as states
 use Rattle.temporal.specs.Causes.{acceptable}
@@ -26,7 +26,6 @@ use Rattle.ticket.specs.declared.Record.{Record}
 use Rattle.windows.specs.declared.Arrays.{Arrays}
 use Rattle.windows.specs.Arrays.{ticketIn, windowList, stateIn, in-events, in-rules, Lie, Room, Within, Planned, Committed}
 use Rattle.windows.specs.Settle.{Asked}
-use Rattle.plan.specs.Calls.{asking}
 use Rattle.plan.specs.Structs.{arraysOf, ticketOf, stateOf, Past, zeros-past, within-past, set-past, Kept, kept-few, kept-lies, kept-written, flag-of, open-of, close-of}
 use Rattle.plan.specs.declared.Answer.{Answer}
 

@@ -170,13 +170,13 @@ module _ (r : Record) (ok : Kept r) where
       (λ i l. flag-at (r .ticket .events) (r .flags) i l)
       (λ q l. getD-past (false ∷ stateOf r .flags) false q (omega (arith, ok .readable .flags-count, counted)) ∙ ap (λ x. ltb 0 x) (sym (past-point (ok .flags-past) q l)))
 
-  pub open-of : (p : ℕ) → temporal.at (stateOf r .windows) p .opens ≡ at (0 ∷ r .opens) p
-  open-of = by-points (λ p. temporal.at (stateOf r .windows) p .opens ≡ at (0 ∷ r .opens) p) (r .ticket .events) refl
+  pub open-of : (p : ℕ) → temporal.windowAt (stateOf r .windows) p .opens ≡ at (0 ∷ r .opens) p
+  open-of = by-points (λ p. temporal.windowAt (stateOf r .windows) p .opens ≡ at (0 ∷ r .opens) p) (r .ticket .events) refl
       (λ i l. ap (λ (w : Window). w .opens) (window-at (r .ticket .events) (r .opens) (r .closes) i l))
       (λ q l. ap (λ (w : Window). w .opens) (getD-past (origin ∷ stateOf r .windows) origin q (omega (arith, ok .readable .windows-count, counted))) ∙ sym (past-point (ok .opens-past) q l))
 
-  pub close-of : (p : ℕ) → temporal.at (stateOf r .windows) p .closes ≡ at (0 ∷ r .closes) p
-  close-of = by-points (λ p. temporal.at (stateOf r .windows) p .closes ≡ at (0 ∷ r .closes) p) (r .ticket .events) refl
+  pub close-of : (p : ℕ) → temporal.windowAt (stateOf r .windows) p .closes ≡ at (0 ∷ r .closes) p
+  close-of = by-points (λ p. temporal.windowAt (stateOf r .windows) p .closes ≡ at (0 ∷ r .closes) p) (r .ticket .events) refl
       (λ i l. ap (λ (w : Window). w .closes) (window-at (r .ticket .events) (r .opens) (r .closes) i l))
       (λ q l. ap (λ (w : Window). w .closes) (getD-past (origin ∷ stateOf r .windows) origin q (omega (arith, ok .readable .windows-count, counted))) ∙ sym (past-point (ok .closes-past) q l))
 

@@ -1,4 +1,4 @@
--- A list whose first numbers are 0 and whose others are as they were: the scratch after a call.
+-- Laws of clearing the scratch: one number at a time, and that the first numbers do not count. `zeroed` itself stands in `runs`.
 use mathlib.Core.Path.{_≡_, refl, sym, ap, ap₂, _∙_}
 use mathlib.Core.List.{List, _++_}
 use Prim.Native.Nat.{ℕ, suc, _+_, _-_, _≤_, _<_}
@@ -6,9 +6,7 @@ use native.Mathlib.Numerals.{add-one}
 use native.Mathlib.Omega.{arith}
 use lib.ListN.{length, set, drop, getD, replicate, length-append, length-replicate, length-drop, replicate-append-replicate}
 use lib.Seq.{drop-cons, set-at, append-snoc, drop-append-add, drop-drop}
-
-unfoldable pub zeroed : ℕ → List ℕ → List ℕ
-zeroed n xs = replicate n 0 ++ drop n xs
+use Rattle.runs.specs.Calls.{zeroed}
 
 pub zeroed-none : (xs : List ℕ) → xs ≡ zeroed 0 xs
 unfolding zeroed

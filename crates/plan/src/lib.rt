@@ -1,5 +1,5 @@
 // Planning and commitment on bytes: a ticket or a record is read, decided upon in the lent scratch, and the record is written into the lent output.
-// Each promise is an equation with the outcome that `specs/Calls` defines of all that the call is lent.
+// Each promise of `plan` and `commit` is an equation with the outcome that crate `runs` defines (specs/Calls) of all that the call is lent.
 
 ghost use mathlib.Core.Path.{_≡_};
 ghost use mathlib.Core.List.{_∷_};
@@ -7,7 +7,7 @@ ghost use Prim.Native.Nat.{_≤_};
 ghost use lib.Dec.{ltb};
 ghost use lib.ListN.{length};
 ghost use Rattle.temporal.specs.Ticket.{total};
-ghost use Rattle.temporal.specs.Plan.{State, plan, cause, commit, accepted};
+ghost use Rattle.temporal.specs.Plan.{State, plan, cause, commit, accepted, asking};
 ghost use Rattle.temporal.specs.Run.{Valid};
 ghost use Rattle.ticket.specs.Parser.{wholly};
 ghost use Rattle.ticket.specs.Format.{readTicket, readState};
@@ -16,7 +16,7 @@ ghost use Rattle.ticket.specs.Writing.{over};
 ghost use Rattle.ticket.specs.Stored.{stored};
 ghost use Rattle.network.specs.Stored.{at};
 ghost use Rattle.plan.specs.Zeroed.{past};
-ghost use Rattle.plan.specs.Calls.{cleared, answered, afterReading, asking, planning, committing};
+ghost use Rattle.runs.specs.Calls.{cleared, answered, afterReading, planning, committing};
 ghost use Rattle.plan.specs.Returned.{returned};
 ghost use Rattle.plan.specs.Structs.{arraysOf, ticketOf, stateOf, Kept};
 ghost use Rattle.plan.specs.Steps.{firstCause};

@@ -20,8 +20,8 @@ use Rattle.ticket.specs.Format.{readTicket, readState}
 use Rattle.ticket.specs.Stored.{pad, storedState, wholeRecord}
 use Rattle.ticket.specs.Agree.{field-at}
 use Rattle.ticket.specs.declared.Record.{Record}
-use Rattle.plan.specs.Calls.{Outcome, room, planning-read}
-use Rattle.plan.specs.Calls as calls
+use Rattle.runs.specs.Calls.{Outcome, room, planning-read}
+use Rattle.runs.specs.Calls as calls
 use Rattle.planner.specs.Text.{refusal, heading, eventLine, lineAt, each, each-same}
 
 -- a plan: the heading, and a line for each event

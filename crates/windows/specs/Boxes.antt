@@ -76,10 +76,10 @@ module _ {t : Arrays} (G : Given t) {low high : ℕ → ℕ} (F : Free t low hig
 -- ---- a commitment: the committed windows as they are, the free ones at least as wide as before
 
 pub record Kept (t : Arrays) (flags : List Bool) (old : List Window) (low high : ℕ → ℕ) : Type 0 where
-  pub open-low : (i : ℕ) → i < t .events → low (suc i) ≡ cond (flagged flags (suc i)) (ticket.at old (suc i) .opens) 0
-  pub open-high : (i : ℕ) → i < t .events → high (suc i) ≡ ticket.at old (suc i) .opens
-  pub close-low : (i : ℕ) → i < t .events → low (t .events + suc i) ≡ ticket.at old (suc i) .closes
-  pub close-high : (i : ℕ) → i < t .events → high (t .events + suc i) ≡ cond (flagged flags (suc i)) (ticket.at old (suc i) .closes) (t .horizon)
+  pub open-low : (i : ℕ) → i < t .events → low (suc i) ≡ cond (flagged flags (suc i)) (ticket.windowAt old (suc i) .opens) 0
+  pub open-high : (i : ℕ) → i < t .events → high (suc i) ≡ ticket.windowAt old (suc i) .opens
+  pub close-low : (i : ℕ) → i < t .events → low (t .events + suc i) ≡ ticket.windowAt old (suc i) .closes
+  pub close-high : (i : ℕ) → i < t .events → high (t .events + suc i) ≡ cond (flagged flags (suc i)) (ticket.windowAt old (suc i) .closes) (t .horizon)
 
 keeps-box : (b : Bool) (h : ℕ) (v w : Window) → w .closes ≤ h → KeepsAt b v w
     → (cond b (v .opens) 0 ≤ w .opens) × (w .opens ≤ v .opens) × (v .closes ≤ w .closes) × (w .closes ≤ cond b (v .closes) h)
@@ -109,26 +109,26 @@ module _ {t : Arrays} (G : Given t) (flags : List Bool) (old : List Window) {low
       )))
     where
       box : (i : ℕ) → i < t .events
-          → (cond (flagged flags (suc i)) (ticket.at old (suc i) .opens) 0 ≤ ticket.at ws (suc i) .opens) × (ticket.at ws (suc i) .opens ≤ ticket.at old (suc i) .opens)
-          × (ticket.at old (suc i) .closes ≤ ticket.at ws (suc i) .closes) × (ticket.at ws (suc i) .closes ≤ cond (flagged flags (suc i)) (ticket.at old (suc i) .closes) (t .horizon))
-      box i l = keeps-box (flagged flags (suc i)) (t .horizon) (ticket.at old (suc i)) (ticket.at ws (suc i))
+          → (cond (flagged flags (suc i)) (ticket.windowAt old (suc i) .opens) 0 ≤ ticket.windowAt ws (suc i) .opens) × (ticket.windowAt ws (suc i) .opens ≤ ticket.windowAt old (suc i) .opens)
+          × (ticket.windowAt old (suc i) .closes ≤ ticket.windowAt ws (suc i) .closes) × (ticket.windowAt ws (suc i) .closes ≤ cond (flagged flags (suc i)) (ticket.windowAt old (suc i) .closes) (t .horizon))
+      box i l = keeps-box (flagged flags (suc i)) (t .horizon) (ticket.windowAt old (suc i)) (ticket.windowAt ws (suc i))
           (omega (arith, g .ends .inside (suc i), in-horizon t)) (g .kept (suc i) (omega (arith, in-events t)))
 
   pub kept-top : (i : ℕ) → i < t .events → high (t .events + suc i) ≤ t .horizon
   kept-top i l = rw (K .close-high i l)
-      (cond-most (flagged flags (suc i)) (ticket.at old (suc i) .closes) (t .horizon) (t .horizon) (omega (arith, E .inside (suc i), in-horizon t)) (omega arith))
+      (cond-most (flagged flags (suc i)) (ticket.windowAt old (suc i) .closes) (t .horizon) (t .horizon) (omega (arith, E .inside (suc i), in-horizon t)) (omega arith))
 
   allowed-grows : (ws : List Window) → Allowed t low high ws → Grows (ticketIn t) flags old ws
   allowed-grows ws A = record { ends = allowed-ends G low high ws kept-top A; kept = λ p l. keep p (omega (arith, in-events t)) }
     where
-      keep : (q : ℕ) → q ≤ t .events → KeepsAt (flagged flags q) (ticket.at old q) (ticket.at ws q)
+      keep : (q : ℕ) → q ≤ t .events → KeepsAt (flagged flags q) (ticket.windowAt old q) (ticket.windowAt ws q)
       keep zero l = (omega arith, omega arith)
       keep (suc i) l =
           let n = t .events in
           let M = A .meeting in
           let o = potential-open n ws (suc i) l in
           let c = potential-close n ws (suc i) (omega arith) in
-          box-keeps (flagged flags (suc i)) (t .horizon) (ticket.at old (suc i)) (ticket.at ws (suc i))
+          box-keeps (flagged flags (suc i)) (t .horizon) (ticket.windowAt old (suc i)) (ticket.windowAt ws (suc i))
           (rw (K .open-low i l, o) at (M .above-low (suc i) (omega arith) (omega arith)))
           (rw (K .open-high i l, o) at (M .below-high (suc i) (omega arith) (omega arith)))
           (rw (K .close-low i l, c) at (M .above-low (n + suc i) (omega arith) (omega arith)))

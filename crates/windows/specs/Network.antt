@@ -249,7 +249,7 @@ module _ {net : List ℕ} {t : Arrays} {low high : ℕ → ℕ} (B : Built net t
           ),
         ))
         (λ (l : suc n ≤ q).
-        let none : ticket.at x q ≡ origin = getD-past (origin ∷ x) origin q (omega (arith, length-windows n p)) in
+        let none : ticket.windowAt x q ≡ origin = getD-past (origin ∷ x) origin q (omega (arith, length-windows n p)) in
         (omega (arith, ap (λ (w : Window). w .opens) none), omega (arith, ap (λ (w : Window). w .closes) none)))
         (below-or-not q (suc n))
 

@@ -67,7 +67,7 @@ windowsOf n p = tab n (windowAt n p)
 
 -- the potential of windows
 unfoldable pub potentialOf : ℕ → List Window → ℕ → ℕ
-potentialOf n ws v = cond (leb v n) (ticket.at ws v .opens) (ticket.at ws (v - n) .closes)
+potentialOf n ws v = cond (leb v n) (ticket.windowAt ws v .opens) (ticket.windowAt ws (v - n) .closes)
 
 pub length-windows : (n : ℕ) (p : ℕ → ℕ) → length (windowsOf n p) ≡ n
 unfolding windowsOf
@@ -78,17 +78,17 @@ unfolding windowsOf
 windows-at n p i l = getD-tab n (windowAt n p) origin i l
 
 module _ (n : ℕ) (ws : List Window) where
-  pub potential-open : (q : ℕ) → q ≤ n → potentialOf n ws q ≡ ticket.at ws q .opens
+  pub potential-open : (q : ℕ) → q ≤ n → potentialOf n ws q ≡ ticket.windowAt ws q .opens
   unfolding potentialOf
   potential-open q l = rw (le-leb q n l)
 
-  pub potential-close : (q : ℕ) → 0 < q → potentialOf n ws (n + q) ≡ ticket.at ws q .closes
+  pub potential-close : (q : ℕ) → 0 < q → potentialOf n ws (n + q) ≡ ticket.windowAt ws q .closes
   unfolding potentialOf
   potential-close q l =
       let e : n + q - n ≡ q = omega arith in
       rw (lt-leb (n + q) n (omega arith), e)
 
-  pub potential-node : (q : ℕ) → potentialOf n ws (closeNode n q) ≡ ticket.at ws q .closes
+  pub potential-node : (q : ℕ) → potentialOf n ws (closeNode n q) ≡ ticket.windowAt ws q .closes
   unfolding closeNode
   potential-node zero = potential-open 0 (omega arith)
   potential-node (suc i) = potential-close (suc i) (omega arith)

@@ -92,25 +92,25 @@ module _ {t : Arrays} (G : Given t) where
         let a = at (t .from) j in
         let b = at (t .to) j in
         rw (potential-node n ws b, potential-open n ws a (G .from-point j l))
-        (biased-rule j l (ticket.at ws a .opens) (ticket.at ws b .closes)
-        (signed (ticket.at ws a .opens) (ticket.at ws b .closes) (getD (t .bound) j (pos 0)) .1
-        (rule-of (λ (r : Rule). ticket.at ws (r .to) .closes + below (r .bound) ≤ ticket.at ws (r .from) .opens + above (r .bound)) (E .obeys) j l)))
+        (biased-rule j l (ticket.windowAt ws a .opens) (ticket.windowAt ws b .closes)
+        (signed (ticket.windowAt ws a .opens) (ticket.windowAt ws b .closes) (getD (t .bound) j (pos 0)) .1
+        (rule-of (λ (r : Rule). ticket.windowAt ws (r .to) .closes + below (r .bound) ≤ ticket.windowAt ws (r .from) .opens + above (r .bound)) (E .obeys) j l)))
 
     pub obeyed-ends : length ws ≡ t .events → All (Lies (t .horizon)) ws → Obeyed t (t .events) (potentialOf (t .events) ws) → Ends (ticketIn t) ws
     obeyed-ends e L O = record {
       count = e ∙ sym (in-events t);
       ordered = λ p. lies p .0;
       inside = λ p. rw (in-horizon t) (lies p .1);
-      obeys = of-rules (λ (r : Rule). ticket.at ws (r .to) .closes + below (r .bound) ≤ ticket.at ws (r .from) .opens + above (r .bound)) (λ j l.
+      obeys = of-rules (λ (r : Rule). ticket.windowAt ws (r .to) .closes + below (r .bound) ≤ ticket.windowAt ws (r .from) .opens + above (r .bound)) (λ j l.
           let n = t .events in
           let a = at (t .from) j in
           let b = at (t .to) j in
-          signed (ticket.at ws a .opens) (ticket.at ws b .closes) (getD (t .bound) j (pos 0)) .0
-          (signed-rule j l (ticket.at ws a .opens) (ticket.at ws b .closes)
+          signed (ticket.windowAt ws a .opens) (ticket.windowAt ws b .closes) (getD (t .bound) j (pos 0)) .0
+          (signed-rule j l (ticket.windowAt ws a .opens) (ticket.windowAt ws b .closes)
           (rw (potential-node n ws b, potential-open n ws a (G .from-point j l)) at (O j l))));
     }
       where
-        lies : (p : ℕ) → Lies (t .horizon) (ticket.at ws p)
+        lies : (p : ℕ) → Lies (t .horizon) (ticket.windowAt ws p)
         lies = All-at (Lies (t .horizon)) origin (omega arith) (origin ∷ ws) (omega arith, L)
 
 -- ---- schedules

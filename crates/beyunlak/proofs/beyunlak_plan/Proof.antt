@@ -3,7 +3,7 @@ use Prim.Native.Nat.{ℕ}
 use mathlib.Core.Path.{ap, _∙_}
 use mathlib.Core.List.{List}
 use borrow.Author.Needs.{needs}
-use Rattle.plan.specs.Calls.{planning}
+use Rattle.runs.specs.Calls.{planning}
 use Rattle.plan.specs.declared.Answer.{Answer}
 use Rattle.beyunlak.proofs.beyunlak_plan.Statement.{statement}
 use Rattle.beyunlak.proofs.beyunlak_plan.Tie as tie

@@ -4,7 +4,8 @@ use Prim.Native.Nat.{_≤_, _-_}
 use borrow.Author.Needs.{needs}
 use native.Mathlib.Omega.{arith}
 use lib.ListN.{length, set}
-use Rattle.plan.specs.Zeroed.{zeroed, zeroed-none, zeroed-more, zeroed-length}
+use Rattle.runs.specs.Calls.{zeroed}
+use Rattle.plan.specs.Zeroed.{zeroed-none, zeroed-more, zeroed-length}
 use Rattle.plan.proofs.clear.Statement.{statement}
 use Rattle.plan.proofs.clear.Tie as tie
 

@@ -1,9 +1,9 @@
 -- `plan::commit` meets its contract: 10 first, then what was read and decided, then the scratch is cleared. Assumes nothing.
-use Rattle.temporal.specs.Plan.{State, commit}
+use Rattle.temporal.specs.Plan.{State, commit, asking}
 use Rattle.ticket.specs.Parser.{wholly}
 use Rattle.ticket.specs.Format.{readState}
-use Rattle.plan.specs.Calls.{asking, committing-read, committing-short}
-use Rattle.plan.specs.Meets.{no-room-out, no-room-scratch, enough-room, whole-short, whole-read}
+use Rattle.runs.specs.Calls.{no-room-out, no-room-scratch, enough-room, committing-read, committing-short}
+use Rattle.plan.specs.Meets.{whole-short, whole-read}
 use borrow.Author.Needs.{needs}
 use Rattle.plan.proofs.commit.Statement.{statement}
 use Rattle.plan.proofs.commit.Tie as tie

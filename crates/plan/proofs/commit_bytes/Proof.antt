@@ -1,7 +1,6 @@
 -- `plan::commit_bytes` meets its contract: a refused reading answers its number, and what was read is committed to. Assumes nothing.
 use native.Mathlib.Omega.{arith}
-use Rattle.temporal.specs.Plan.{State, commit}
-use Rattle.plan.specs.Calls.{asking}
+use Rattle.temporal.specs.Plan.{State, commit, asking}
 use Rattle.plan.specs.Meets.{record-misread, record-read, record-meets}
 use borrow.Author.Needs.{needs}
 use Rattle.plan.proofs.commit_bytes.Statement.{statement}

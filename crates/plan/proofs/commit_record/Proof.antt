@@ -1,6 +1,6 @@
 -- `plan::commit_record` meets its contract: the first cause, or the record with the event committed. Assumes nothing.
 use mathlib.Core.Path.{refl}
-use Rattle.plan.specs.Calls.{asking}
+use Rattle.temporal.specs.Plan.{asking}
 use Rattle.plan.specs.Structs.{stateOf}
 use Rattle.plan.specs.Steps.{commit-refused}
 use Rattle.plan.specs.Meets.{meets-refused, meets-accepted}

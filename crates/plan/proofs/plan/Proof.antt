@@ -2,8 +2,8 @@
 use Rattle.temporal.specs.Plan.{plan}
 use Rattle.ticket.specs.Parser.{wholly}
 use Rattle.ticket.specs.Format.{readTicket}
-use Rattle.plan.specs.Calls.{planning-read, planning-short}
-use Rattle.plan.specs.Meets.{no-room-out, no-room-scratch, enough-room, whole-short, whole-read}
+use Rattle.runs.specs.Calls.{no-room-out, no-room-scratch, enough-room, planning-read, planning-short}
+use Rattle.plan.specs.Meets.{whole-short, whole-read}
 use borrow.Author.Needs.{needs}
 use Rattle.plan.proofs.plan.Statement.{statement}
 use Rattle.plan.proofs.plan.Tie as tie

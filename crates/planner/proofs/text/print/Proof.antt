@@ -9,7 +9,7 @@ use lib.Seq.{length-take-le}
 use Rattle.temporal.specs.Plan.{State}
 use Rattle.ticket.specs.Stored.{storedState}
 use Rattle.ticket.specs.declared.ReadRecord.{ReadRecord}
-use Rattle.plan.specs.Calls.{planning, room}
+use Rattle.runs.specs.Calls.{planning, room}
 use Rattle.plan.specs.declared.Answer.{Answer}
 use Rattle.planner.specs.Text.{refusal}
 use Rattle.planner.specs.Stores.{puts-as, puts-counts}

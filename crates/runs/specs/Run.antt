@@ -14,7 +14,7 @@ use Rattle.temporal.specs.Run.{Acceptable, FirstCause, Place, Allowed}
 use Rattle.ticket.specs.Parser.{Cause, number, got, refused, wholly}
 use Rattle.ticket.specs.Format.{readTicket, readState}
 use Rattle.ticket.specs.RoundTrip.{Bytes}
-use Rattle.plan.specs.Calls.{Outcome, room, planning, committing}
+use Rattle.runs.specs.Calls.{Outcome, room, planning, committing}
 
 -- ---- the calls of a run
 

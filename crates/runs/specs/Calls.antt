@@ -2,14 +2,14 @@
 -- The bytes are `ticket`'s, the decisions `temporal`'s. This is 01's "Network, table, plan" and "Where a paper is sent back".
 use mathlib.Core.Path.{_≡_}
 use mathlib.Core.Bool.{Bool, true, false, cond, _&&_}
-use mathlib.Core.List.{List}
-use Prim.Native.Nat.{ℕ}
+use mathlib.Core.List.{List, _++_}
+use Prim.Native.Nat.{ℕ, _≤_, _<_}
+use borrow.Author.Tests.{le-leb, lt-leb}
 use lib.Dec.{leb}
-use lib.ListN.{length}
+use lib.ListN.{length, drop, replicate}
 use Rattle.temporal.specs.Ticket.{total}
-use Rattle.temporal.specs.Plan.{State, Commitment, Answer, plan, commit}
+use Rattle.temporal.specs.Plan.{State, Answer, asking, plan, commit}
 use Rattle.ticket.specs.Parser.{Out, number, wholly}
-use Rattle.plan.specs.Zeroed.{zeroed}
 use Rattle.ticket.specs.Format.{readTicket, readState}
 use Rattle.ticket.specs.Writer.{writeState}
 use Rattle.ticket.specs.Writing.{over}
@@ -26,7 +26,11 @@ pub record Outcome : Type 0 where
 unfoldable pub room : List ℕ → List ℕ → Bool
 room out scratch = leb 1948 (length out) && leb 8192 (length scratch)
 
--- the scratch after every answer but 10: the first 8,192 numbers are 0, the rest is as it was
+-- the list with 0 for its first n numbers, and the rest as it was
+unfoldable pub zeroed : ℕ → List ℕ → List ℕ
+zeroed n xs = replicate n 0 ++ drop n xs
+
+-- the scratch after every answer but 10
 abbrev pub cleared : List ℕ → List ℕ
 cleared scratch = zeroed 8192 scratch
 
@@ -63,10 +67,6 @@ afterReading out scratch decide (Out.refused cause) = refusing (number cause) ou
 unfoldable pub planning : (ticket out scratch : List ℕ) → Outcome
 planning ticket out scratch = cond (room out scratch) (afterReading out scratch plan (wholly readTicket ticket)) (withoutRoom out scratch)
 
--- a commitment to an event, an open and a close, with room
-abbrev pub asking : (event opens closes : ℕ) → Commitment
-asking event opens closes = record { room = true; event = event; opens = opens; closes = closes }
-
 unfoldable pub committing : (bytes : List ℕ) (event opens closes : ℕ) (out scratch : List ℕ) → Outcome
 committing bytes event opens closes out scratch =
     cond (room out scratch)
@@ -74,6 +74,18 @@ committing bytes event opens closes out scratch =
     (withoutRoom out scratch)
 
 -- ---- the same by cases
+
+pub enough-room : (out scratch : List ℕ) → 1948 ≤ length out → 8192 ≤ length scratch → room out scratch ≡ true
+unfolding room
+enough-room out scratch l m = rw (le-leb 1948 (length out) l, le-leb 8192 (length scratch) m)
+
+pub no-room-out : (out scratch : List ℕ) → length out < 1948 → room out scratch ≡ false
+unfolding room
+no-room-out out scratch l = rw (lt-leb 1948 (length out) l)
+
+pub no-room-scratch : (out scratch : List ℕ) → 1948 ≤ length out → length scratch < 8192 → room out scratch ≡ false
+unfolding room
+no-room-scratch out scratch l m = rw (le-leb 1948 (length out) l, lt-leb 8192 (length scratch) m)
 
 module _ (ticket out scratch : List ℕ) where
   pub planning-short : room out scratch ≡ false → planning ticket out scratch ≡ withoutRoom out scratch

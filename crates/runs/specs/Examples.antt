@@ -8,13 +8,13 @@ use lib.IntN.{pos, negsuc}
 use lib.ListN.{length}
 use Rattle.temporal.specs.Lists.{All}
 use Rattle.temporal.specs.Ticket.{Ticket, weights, weight, total}
-use Rattle.temporal.specs.Plan.{State, accepted, refused, plan, commit}
+use Rattle.temporal.specs.Plan.{State, accepted, refused, plan, commit, asking}
 use Rattle.temporal.specs.Examples.{ticket1, plan1, record3, ticket4, plan4, ticket6, ticket7, ticket8, ticket10, p1, p2, p3, p4, p5, p6, p6-refused, p7, p7-refused, p8, p10}
 use Rattle.ticket.specs.Parser.{got, number, little, many, wholly}
 use Rattle.ticket.specs.Format.{readTicket, readOwner, readRule, readState, readWindow}
 use Rattle.ticket.specs.Writer.{bytes, each, entries, writeRule, writeTicket, writeWindow, writeState}
 use Rattle.ticket.specs.Writing.{over}
-use Rattle.plan.specs.Calls.{Outcome, room, cleared, refusing, answered, afterReading, asking, planning, planning-read, committing, committing-read}
+use Rattle.runs.specs.Calls.{Outcome, room, cleared, refusing, answered, afterReading, planning, planning-read, committing, committing-read}
 
 -- ---- how an example is written
 

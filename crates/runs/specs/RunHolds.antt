@@ -10,7 +10,7 @@ use lib.ListN.{length, drop}
 use lib.Seq.{take-at}
 use Rattle.temporal.specs.Ticket.{Ticket, Schedule, Fit}
 use Rattle.temporal.specs.Best.{Chosen}
-use Rattle.temporal.specs.Plan.{State, Commitment, Answer, number as decided, flagged, plan, cause, commit}
+use Rattle.temporal.specs.Plan.{State, Commitment, Answer, number as decided, flagged, plan, cause, commit, asking}
 use Rattle.temporal.specs.Run.{Valid, Readable, Acceptable, FirstCause, Place, Allowed, Answered}
 use Rattle.temporal.specs.Answers.{commit-number}
 use Rattle.temporal.specs.Causes.{acceptable, first-refuses, fit-cause}
@@ -22,8 +22,8 @@ use Rattle.ticket.specs.Format.{readTicket, readState}
 use Rattle.ticket.specs.Writer.{writeTicket, writeState}
 use Rattle.ticket.specs.Writing.{over}
 use Rattle.ticket.specs.RoundTrip.{Bytes, read-written-state, read-written, written-read, written-read-state}
-use Rattle.plan.specs.Calls.{Outcome, room, withoutRoom, accepting, answered, afterReading, asking, planning, planning-short, planning-read, committing-short, committing-read}
-use Rattle.plan.specs.Run.{Call, asks, outcome, written, Holds, Claim, Planned, Unplanned, Start, planned, given, Run}
+use Rattle.runs.specs.Calls.{Outcome, room, withoutRoom, accepting, answered, afterReading, planning, planning-short, planning-read, committing-short, committing-read}
+use Rattle.runs.specs.Run.{Call, asks, outcome, written, Holds, Claim, Planned, Unplanned, Start, planned, given, Run}
 
 answered-number : (out scratch : List ℕ) (a : Answer) → answered out scratch a .number ≡ decided a
 answered-number out scratch (Answer.refused r) = refl
