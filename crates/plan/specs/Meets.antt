@@ -12,7 +12,7 @@ use Rattle.ticket.specs.Parser.{Cause, Out, got, number, wholly}
 use Rattle.ticket.specs.Parser as parser
 use Rattle.ticket.specs.Format.{readTicket, readState}
 use Rattle.ticket.specs.Writer.{writeState}
-use Rattle.ticket.specs.Writing.{over}
+use Rattle.ticket.specs.Writing.{content, stateOf, over}
 use Rattle.ticket.specs.Stored.{stored, answer, storedState, planned, wholeTicket, wholeRecord}
 use Rattle.ticket.specs.RoundTrip.{Bytes, written-read, written-read-state}
 use Rattle.ticket.specs.Answers.{was-refused, was-got}
@@ -20,7 +20,8 @@ use Rattle.ticket.specs.declared.ReadTicket.{ReadTicket}
 use Rattle.ticket.specs.declared.ReadRecord.{ReadRecord}
 use Rattle.plan.specs.Zeroed.{past, zeroed-rest}
 use Rattle.runs.specs.Calls.{Outcome, zeroed, cleared, withoutRoom, answered, afterReading}
-use Rattle.plan.specs.Structs.{ticketOf, stateOf, ticket-of, state-of, Kept, kept-read}
+use Rattle.ticket.specs.Agree.{content-stored}
+use Rattle.plan.specs.Structs.{state-of, Kept, kept-read}
 use Rattle.plan.specs.Returned.{returned}
 use Rattle.plan.specs.declared.Answer.{Answer}
 
@@ -77,13 +78,13 @@ module _ (ticket : List ℕ) {x : ReadTicket} (e : x ≡ wholeTicket ticket) whe
     struct : x .ticket ≡ stored (read .0)
     struct = ap (λ (y : ReadTicket). y .ticket) (e ∙ ap (answer 0) (read .2))
 
-    holds : ticketOf (x .ticket) ≡ read .0
-    holds = ap ticketOf struct ∙ ticket-of (read .0)
+    holds : content (x .ticket) ≡ read .0
+    holds = ap content struct ∙ content-stored (read .0)
 
-    pub ticket-read : Bytes ticket → (x .ticket ≡ stored (ticketOf (x .ticket))) × Valid (ticketOf (x .ticket))
+    pub ticket-read : Bytes ticket → (x .ticket ≡ stored (content (x .ticket))) × Valid (content (x .ticket))
     ticket-read b = (struct ∙ ap stored (sym holds), subst Valid (sym holds) (written-read ticket (read .0) (read .1) b (read .2) .1))
 
-    pub ticket-meets : (out : List ℕ) {scratch : List ℕ} {a : Answer} {out′ scratch′ : List ℕ} → Meets (answered out scratch (plan (ticketOf (x .ticket)))) scratch a out′ scratch′
+    pub ticket-meets : (out : List ℕ) {scratch : List ℕ} {a : Answer} {out′ scratch′ : List ℕ} → Meets (answered out scratch (plan (content (x .ticket)))) scratch a out′ scratch′
         → Meets (afterReading out scratch plan (wholly readTicket ticket)) scratch a out′ scratch′
     ticket-meets out {scratch} {a} {out′} {scratch′} m =
         subst (λ o. Meets o scratch a out′ scratch′)

@@ -1,4 +1,4 @@
--- One planning and one commitment as the code takes them, in the arrays of `windows`: what is asked there, what comes back, and that it is kept.
+-- One planning and one commitment as the code takes them: what is asked of `windows`, what comes back, and that it is kept.
 use mathlib.Core.Path.{_≡_, refl, sym, ap, subst, _∙_}
 use mathlib.Core.Bool.{Bool, true, false, not, cond, _||_}
 use mathlib.Core.List.{List, [], _∷_}
@@ -19,14 +19,13 @@ use Rattle.temporal.specs.RunHolds as states-hold
 use Rattle.network.specs.Stored.{at}
 use Rattle.ticket.specs.Stored.{stored}
 use Rattle.ticket.specs.Writer.{writeState}
-use Rattle.ticket.specs.Writing.{over, recordWritten, recordOutput}
+use Rattle.ticket.specs.Writing.{content, stateOf, over, recordWritten, recordOutput}
 use Rattle.ticket.specs.declared.Written.{Written}
-use Rattle.ticket.specs.declared.Ticket.{Ticket as Ticket-struct}
+use Rattle.ticket.specs.declared.Ticket.{Ticket as Struct}
 use Rattle.ticket.specs.declared.Record.{Record}
-use Rattle.windows.specs.declared.Arrays.{Arrays}
-use Rattle.windows.specs.Arrays.{ticketIn, windowList, stateIn, in-events, in-rules, Lie, Room, Within, Planned, Committed}
+use Rattle.windows.specs.Arrays.{windowList, stateIn, in-events, in-rules, Lie, Room, Within, Planned, Committed}
 use Rattle.windows.specs.Settle.{Asked}
-use Rattle.plan.specs.Structs.{arraysOf, ticketOf, stateOf, Past, zeros-past, within-past, set-past, Kept, kept-few, kept-lies, kept-written, flag-of, open-of, close-of}
+use Rattle.plan.specs.Structs.{Past, zeros-past, within-past, set-past, Kept, kept-few, kept-lies, kept-written, flag-of, open-of, close-of}
 use Rattle.plan.specs.declared.Answer.{Answer}
 
 -- ---- what an accepted call leaves is readable
@@ -40,9 +39,9 @@ committed-readable s ok c z next e =
 
 -- ---- room for the edges
 
-edges-room : (t : Ticket-struct) (net opens closes : List ℕ) → Valid (ticketOf t) → length net ≡ 1824 → length opens ≡ 40 → length closes ≡ 40 → Room (arraysOf t) net opens closes
+edges-room : (t : Struct) (net opens closes : List ℕ) → Valid (content t) → length net ≡ 1824 → length opens ≡ 40 → length closes ≡ 40 → Room t net opens closes
 edges-room t net opens closes v l o c = record {
-  size = omega (arith, v .events-limit, v .rules-limit, in-events (arraysOf t), in-rules (arraysOf t));
+  size = omega (arith, v .events-limit, v .rules-limit, in-events t, in-rules t);
   opens-long = o;
   closes-long = c;
 }
@@ -59,28 +58,26 @@ firstCause fit n event committed opens closes first last =
 
 module _ (r : Record) (ok : Kept r) (event opens closes : ℕ) where
   pub cause-of : cause (stateOf r) (asking event opens closes)
-      ≡ firstCause (fits (ticketOf (r .ticket)) (stateOf r .windows)) (r .ticket .events) event (ltb 0 (at (0 ∷ r .flags) event))
+      ≡ firstCause (fits (content (r .ticket)) (stateOf r .windows)) (r .ticket .events) event (eqb (at (0 ∷ r .flags) event) 1)
       opens closes (at (0 ∷ r .opens) event) (at (0 ∷ r .closes) event)
   unfolding cause
-  cause-of = rw (in-events (arraysOf (r .ticket)), flag-of r ok event, open-of r ok event, close-of r ok event)
+  cause-of = rw (in-events (r .ticket), flag-of r ok event, open-of r ok event, close-of r ok event)
 
-  pub cause-told : {a : Arrays} {fit committed : Bool} {first last k : ℕ} → a ≡ arraysOf (r .ticket)
-      → fits (ticketIn a) (windowList (a .events) (r .opens) (r .closes)) ≡ fit
-      → committed ≡ ltb 0 (at (0 ∷ r .flags) event) → first ≡ at (0 ∷ r .opens) event → last ≡ at (0 ∷ r .closes) event
+  pub cause-told : {fit committed : Bool} {first last k : ℕ}
+      → fits (content (r .ticket)) (windowList (r .ticket .events) (r .opens) (r .closes)) ≡ fit
+      → committed ≡ eqb (at (0 ∷ r .flags) event) 1 → first ≡ at (0 ∷ r .opens) event → last ≡ at (0 ∷ r .closes) event
       → k ≡ firstCause fit (r .ticket .events) event committed opens closes first last → k ≡ cause (stateOf r) (asking event opens closes)
-  cause-told {a} e f p x y q =
-      q
-      ∙ (λ i. firstCause ((sym f ∙ ap (λ (b : Arrays). fits (ticketIn b) (windowList (b .events) (r .opens) (r .closes))) e) i) (r .ticket .events) event (p i) opens closes (x i) (y i))
-      ∙ sym cause-of
+  unfolding windowList
+  cause-told f p x y q = q ∙ (λ i. firstCause (sym f i) (r .ticket .events) event (p i) opens closes (x i) (y i)) ∙ sym cause-of
 
   -- the number of accepted commitments does not count
-  cause-count : (m : ℕ) → cause (stateIn (arraysOf (r .ticket)) (r .flags) (r .opens) (r .closes) m) (asking event opens closes) ≡ cause (stateOf r) (asking event opens closes)
+  cause-count : (m : ℕ) → cause (stateIn (r .ticket) (r .flags) (r .opens) (r .closes) m) (asking event opens closes) ≡ cause (stateOf r) (asking event opens closes)
   unfolding cause
   cause-count m = refl
 
-  pub commit-asked : {a : Arrays} {net : List ℕ} → a ≡ arraysOf (r .ticket) → length net ≡ 1824 → cause (stateOf r) (asking event opens closes) ≡ 0
-      → Room a net (r .opens) (r .closes) × Asked a (r .flags) (r .opens) (r .closes) event opens closes
-  commit-asked {a} {net} e l z = subst (λ b. Room b net (r .opens) (r .closes) × Asked b (r .flags) (r .opens) (r .closes) event opens closes) (sym e) (
+  pub commit-asked : {net : List ℕ} → length net ≡ 1824 → cause (stateOf r) (asking event opens closes) ≡ 0
+      → Room (r .ticket) net (r .opens) (r .closes) × Asked (r .ticket) (r .flags) (r .opens) (r .closes) event opens closes
+  commit-asked {net} l z = (
     edges-room (r .ticket) net (r .opens) (r .closes) (ok .readable .valid) l (ok .opens-past .long) (ok .closes-past .long),
     record {
       valid = ok .readable .valid;
@@ -92,54 +89,49 @@ module _ (r : Record) (ok : Kept r) (event opens closes : ℕ) where
   )
 
   -- what a commitment leaves in the arrays is kept
-  pub kept-committed : {a : Arrays} {flags′ opens′ closes′ : List ℕ} → a ≡ arraysOf (r .ticket) → cause (stateOf r) (asking event opens closes) ≡ 0
-      → Committed a (r .flags) (r .opens) (r .closes) flags′ opens′ closes′ event opens closes
+  pub kept-committed : {flags′ opens′ closes′ : List ℕ} → cause (stateOf r) (asking event opens closes) ≡ 0
+      → Committed (r .ticket) (r .flags) (r .opens) (r .closes) flags′ opens′ closes′ event opens closes
       → Kept (record { ticket = r .ticket; flags = flags′; opens = opens′; closes = closes′; number = r .number + 1 })
-      × (commit (stateOf r) (asking event opens closes) ≡ accepted (stateIn (arraysOf (r .ticket)) flags′ opens′ closes′ (r .number + 1)))
-  kept-committed {a} {flags′} {opens′} {closes′} e z C₀ = (
+      × (commit (stateOf r) (asking event opens closes) ≡ accepted (stateIn (r .ticket) flags′ opens′ closes′ (r .number + 1)))
+  kept-committed {flags′} {opens′} {closes′} z C = (
     record {
       ticket-is = ok .ticket-is;
       flags-past = subst (Past (r .ticket .events)) (sym (C .flags-are)) (set-past (event - 1) 1 inside (ok .flags-past));
       opens-past = within-past (ok .opens-past) (C .opens-past);
       closes-past = within-past (ok .closes-past) (C .closes-past);
       bits = λ i. subst (λ xs. at xs i ≤ 1) (sym (C .flags-are)) (set-bit i (ℕ-discrete i (event - 1)));
-      readable = committed-readable (stateOf r) (ok .readable) (asking event opens closes) z (stateIn (arraysOf (r .ticket)) flags′ opens′ closes′ (r .number + 1)) decided;
+      readable = committed-readable (stateOf r) (ok .readable) (asking event opens closes) z (stateIn (r .ticket) flags′ opens′ closes′ (r .number + 1)) decided;
     },
     decided,
   )
     where
-      C : Committed (arraysOf (r .ticket)) (r .flags) (r .opens) (r .closes) flags′ opens′ closes′ event opens closes
-      C = subst (λ b. Committed b (r .flags) (r .opens) (r .closes) flags′ opens′ closes′ event opens closes) e C₀
-
-      named : Event (ticketOf (r .ticket)) event
+      named : Event (content (r .ticket)) event
       named = acceptable (stateOf r) (asking event opens closes) (rw z tt) .event
 
       inside : event - 1 < r .ticket .events
-      inside = omega (arith, named, in-events (arraysOf (r .ticket)))
+      inside = omega (arith, named, in-events (r .ticket))
 
-      decided : commit (stateOf r) (asking event opens closes) ≡ accepted (stateIn (arraysOf (r .ticket)) flags′ opens′ closes′ (r .number + 1))
-      decided = C .answer (r .number) ∙ ap (λ m. accepted (stateIn (arraysOf (r .ticket)) flags′ opens′ closes′ m)) (sym (add-one (r .number)))
+      decided : commit (stateOf r) (asking event opens closes) ≡ accepted (stateIn (r .ticket) flags′ opens′ closes′ (r .number + 1))
+      decided = C .answer (r .number) ∙ ap (λ m. accepted (stateIn (r .ticket) flags′ opens′ closes′ m)) (sym (add-one (r .number)))
 
       set-bit : (i : ℕ) → Dec (i ≡ event - 1) → at (set (r .flags) (event - 1) 1) i ≤ 1
       set-bit i (yes q) = omega (arith, ap (at (set (r .flags) (event - 1) 1)) q, getD-set-same (r .flags) (event - 1) 1 0 (omega (arith, inside, kept-few r ok, ok .flags-past .long)))
       set-bit i (no n) = omega (arith, getD-set-other (r .flags) (event - 1) i 1 0 n, ok .bits i)
 
--- ---- planning in arrays
+-- ---- planning
 
-module _ {t : Ticket-struct} {a : Arrays} (e : a ≡ arraysOf t) where
-  pub plan-asked : {net opens closes : List ℕ} → Valid (ticketOf t) → length net ≡ 1824 → length opens ≡ 40 → length closes ≡ 40 → Valid (ticketIn a) × Room a net opens closes
-  plan-asked {net} {opens} {closes} v l o c = subst (λ b. Valid (ticketIn b) × Room b net opens closes) (sym e) (v, edges-room t net opens closes v l o c)
+module _ {t : Struct} where
+  pub plan-asked : {net opens closes : List ℕ} → Valid (content t) → length net ≡ 1824 → length opens ≡ 40 → length closes ≡ 40 → Valid (content t) × Room t net opens closes
+  plan-asked {net} {opens} {closes} v l o c = (v, edges-room t net opens closes v l o c)
 
-  module _ {opens closes opens′ closes′ : List ℕ} {b : Bool} (P : Planned a opens closes opens′ closes′ b) where
-    pub planned-none : b ≡ false → plan (ticketOf t) ≡ refused 9
-    planned-none q = ap (λ x. plan (ticketIn x)) (sym e) ∙ P .answer ∙ ap (λ x. cond x (accepted (stateIn a (replicate 40 0) opens′ closes′ 0)) (refused 9)) q
+  module _ {opens closes opens′ closes′ : List ℕ} {b : Bool} (P : Planned t opens closes opens′ closes′ b) where
+    pub planned-none : b ≡ false → plan (content t) ≡ refused 9
+    planned-none q = P .answer ∙ ap (λ x. cond x (accepted (stateIn t (replicate 40 0) opens′ closes′ 0)) (refused 9)) q
 
-    pub planned-some : b ≡ true → plan (ticketOf t) ≡ accepted (stateIn (arraysOf t) (replicate 40 0) opens′ closes′ 0)
-    planned-some q =
-        ap (λ x. plan (ticketIn x)) (sym e) ∙ P .answer ∙ ap (λ x. cond x (accepted (stateIn a (replicate 40 0) opens′ closes′ 0)) (refused 9)) q
-        ∙ ap (λ x. accepted (stateIn x (replicate 40 0) opens′ closes′ 0)) e
+    pub planned-some : b ≡ true → plan (content t) ≡ accepted (stateIn t (replicate 40 0) opens′ closes′ 0)
+    planned-some q = P .answer ∙ ap (λ x. cond x (accepted (stateIn t (replicate 40 0) opens′ closes′ 0)) (refused 9)) q
 
-    pub kept-planned : t ≡ stored (ticketOf t) → Valid (ticketOf t) → opens ≡ replicate 40 0 → closes ≡ replicate 40 0 → b ≡ true
+    pub kept-planned : t ≡ stored (content t) → Valid (content t) → opens ≡ replicate 40 0 → closes ≡ replicate 40 0 → b ≡ true
         → Kept (record { ticket = t; flags = replicate 40 0; opens = opens′; closes = closes′; number = 0 })
     kept-planned is v zo zc q = record {
       ticket-is = is;
@@ -147,11 +139,11 @@ module _ {t : Ticket-struct} {a : Arrays} (e : a ≡ arraysOf t) where
       opens-past = grown opens′ zo (P .opens-past);
       closes-past = grown closes′ zc (P .closes-past);
       bits = λ i. omega (arith, zeros-past 0 .zero-past i (omega arith));
-      readable = planned-readable (ticketOf t) v (stateIn (arraysOf t) (replicate 40 0) opens′ closes′ 0) (planned-some q);
+      readable = planned-readable (content t) v (stateIn t (replicate 40 0) opens′ closes′ 0) (planned-some q);
     }
       where
-        grown : {xs : List ℕ} (ys : List ℕ) → xs ≡ replicate 40 0 → Within (a .events) xs ys → Past (t .events) ys
-        grown ys z w = within-past (zeros-past (t .events)) (subst (λ n. Within n (replicate 40 0) ys) (ap (λ (x : Arrays). x .events) e) (subst (λ zs. Within (a .events) zs ys) z w))
+        grown : {xs : List ℕ} (ys : List ℕ) → xs ≡ replicate 40 0 → Within (t .events) xs ys → Past (t .events) ys
+        grown ys z w = within-past (zeros-past (t .events)) (subst (λ zs. Within (t .events) zs ys) z w)
 
 -- ---- a commitment that is refused
 
@@ -159,20 +151,20 @@ pub commit-refused : (s : State) (c : Commitment) {k : ℕ} → k ≡ cause s c 
 unfolding commit
 commit-refused s c {k} e n = rw (← e, ne-eqb k 0 n)
 
--- ---- windows in arrays, to be tested and summed
+-- ---- windows, to be tested and summed
 
-pub lies-asked : {r : Record} {a : Arrays} → a ≡ arraysOf (r .ticket) → Kept r → Valid (ticketIn a) × Lie a (r .opens) (r .closes)
-lies-asked {r} {a} e ok = subst (λ b. Valid (ticketIn b) × Lie b (r .opens) (r .closes)) (sym e) (ok .readable .valid, kept-lies r ok)
+pub lies-asked : {r : Record} → Kept r → Valid (content (r .ticket)) × Lie (r .ticket) (r .opens) (r .closes)
+lies-asked {r} ok = (ok .readable .valid, kept-lies r ok)
 
 -- ---- the record written
 
-pub written-out : (out : List ℕ) {r : Record} {a : Arrays} {w : Written} {x : ℕ} {out′ : List ℕ} → Kept r → 1948 ≤ length out → a ≡ arraysOf (r .ticket)
-    → x ≡ total (ticketIn a) (windowList (a .events) (r .opens) (r .closes)) → w ≡ recordWritten out r → out′ ≡ recordOutput out r
+pub written-out : (out : List ℕ) {r : Record} {w : Written} {x : ℕ} {out′ : List ℕ} → Kept r → 1948 ≤ length out
+    → x ≡ total (content (r .ticket)) (windowList (r .ticket .events) (r .opens) (r .closes)) → w ≡ recordWritten out r → out′ ≡ recordOutput out r
     → _≡_ {A = Answer} (record { number = 0; length = w .length; total = x })
     (record { number = 0; length = length (writeState (stateOf r)); total = total (stateOf r .ticket) (stateOf r .windows) })
     × (out′ ≡ over (writeState (stateOf r)) out)
-written-out out {r} {a} {w} {x} ok l e q p h =
+unfolding windowList
+written-out out {r} ok l q p h =
     let k = kept-written r ok out l in
     let n = ap (λ (y : Written). y .length) p ∙ k .0 in
-    let m = q ∙ ap (λ (b : Arrays). total (ticketIn b) (windowList (b .events) (r .opens) (r .closes))) e in
-    (λ i. record { number = 0; length = n i; total = m i }, h ∙ k .1)
+    (λ i. record { number = 0; length = n i; total = q i }, h ∙ k .1)

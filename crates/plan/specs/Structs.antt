@@ -1,51 +1,28 @@
--- What the structs of `ticket` hold, as values of `temporal`: `windows` says it of arrays, and the struct of a value just read says it of all that it holds.
--- A record that the code hands on is Kept: it is the struct of the readable state that stands in it.
+-- A record that the code hands on is Kept: it is the struct of the readable state that it says, with zeros past its counts.
+-- What a struct says is `ticket`'s `content` and `stateOf`; of its arrays alone `windows` says it.
 use mathlib.Core.Path.{_≡_, refl, sym, ap, subst, _∙_}
 use mathlib.Core.Bool.{Bool, true, false}
 use mathlib.Core.List.{List, [], _∷_, map, _++_}
 use Prim.Native.Nat.{ℕ, zero, suc, _-_, _≤_, _<_}
 use native.Mathlib.Omega.{arith}
-use lib.Dec.{ltb}
+use lib.Dec.{eqb}
 use mathlib.Core.Logic.{_⊎_, inl, inr}
-use lib.ListN.{length, getD, set, replicate, length-append, length-replicate, length-map, List·getD-append, length-set}
+use lib.ListN.{length, getD, set, replicate, length-append, length-replicate, length-map, length-set}
 use lib.Seq.{ext-getD, getD-append-add, getD-set-other}
-use Rattle.temporal.specs.Lists.{All, below-or-not, by-points, getD-past}
+use Rattle.temporal.specs.Lists.{below-or-not, by-points, getD-past}
 use Rattle.temporal.specs.Ticket as temporal
-use Rattle.temporal.specs.Ticket.{Rule, Window, events, origin}
-use Rattle.temporal.specs.Ends.{Lies}
+use Rattle.temporal.specs.Ticket.{Window, events, origin}
 use Rattle.temporal.specs.Plan.{State, flagged}
 use Rattle.temporal.specs.Run.{Readable}
 use Rattle.network.specs.Stored.{at}
 use Rattle.ticket.specs.Parser.{got}
 use Rattle.ticket.specs.RoundTrip.{flags-small}
-use Rattle.ticket.specs.Agree.{field-at, readable-written}
-use Rattle.ticket.specs.Writing.{over, told, left, writingRecord, recordWritten, recordOutput}
+use Rattle.ticket.specs.Agree.{field-at, content-stored, state-stored, readable-written}
+use Rattle.ticket.specs.Writing.{content, stateOf, over, told, left, writingRecord, recordWritten, recordOutput}
 use Rattle.ticket.specs.Stored.{pad, stored, storedState}
 use Rattle.ticket.specs.Writer.{flagByte, writeState}
-use Rattle.windows.specs.Arrays.{ticketIn, stateIn, noRule, ticket-in, window-list, flag-list, window-at, flag-at, in-horizon, in-events, Lie, Within}
-use Rattle.ticket.specs.declared.Ticket.{Ticket}
+use Rattle.windows.specs.Arrays.{windowList, flagList, window-at, flag-at, in-events, Lie, Within}
 use Rattle.ticket.specs.declared.Record.{Record}
-use Rattle.windows.specs.declared.Arrays.{Arrays}
-
--- ---- what the structs hold
-
-abbrev pub arraysOf : Ticket → Arrays
-arraysOf t =
-    record {
-      horizon = t .horizon;
-      events = t .events;
-      owners = t .owners;
-      rules = t .rules;
-      from = t .from;
-      to = t .to;
-      bound = t .bound;
-    }
-
-abbrev pub ticketOf : Ticket → temporal.Ticket
-ticketOf t = ticketIn (arraysOf t)
-
-abbrev pub stateOf : Record → State
-stateOf r = stateIn (arraysOf (r .ticket)) (r .flags) (r .opens) (r .closes) (r .number)
 
 -- ---- an array of 40 numbers, 0 past the first n
 
@@ -97,42 +74,17 @@ module _ {A : Type 0} (f : A → ℕ) (d : A) (z : f d ≡ 0) (xs : List A) (few
       by i (inl l) = h i l ∙ sym (pad-at i l)
       by i (inr l) = p .zero-past i l ∙ sym (pad-past .zero-past i l)
 
--- ---- a value just read
-
-pub ticket-of : (k : temporal.Ticket) → ticketOf (stored k) ≡ k
-ticket-of k = ticket-in k (arraysOf (stored k)) refl refl refl
-    (λ i l. owner-at i l)
-    (λ j l. λ t. record {
-      from = field-at (λ (r : Rule). r .from) noRule 256 (k .rules) j l t;
-      to = field-at (λ (r : Rule). r .to) noRule 256 (k .rules) j l t;
-      bound = field-at (λ (r : Rule). r .bound) noRule 256 (k .rules) j l t;
-    })
-  where
-    owner-at : (i : ℕ) → i < events k → at (pad 0 40 (k .owners)) i ≡ getD (k .owners) i 0
-    owner-at i l = unfold pad in List·getD-append (k .owners) (replicate (40 - length (k .owners)) 0) 0 i l
-
 module _ (s : State) (ok : Readable s) where
   few : length (s .windows) ≤ 40
   few = omega (arith, ok .windows-count, ok .valid .events-limit)
 
   pub state-of : stateOf (storedState s) ≡ s
-  state-of =
-      let ws = window-list (events (s .ticket)) (storedState s .opens) (storedState s .closes) (s .windows) (ok .windows-count) (λ i l.
-      let li : i < length (s .windows) = omega (arith, ok .windows-count) in
-      (field-at (λ (w : Window). w .opens) origin 40 (s .windows) i li, field-at (λ (w : Window). w .closes) origin 40 (s .windows) i li)) in
-      let fs = flag-list (events (s .ticket)) (storedState s .flags) (s .flags) (ok .flags-count) (λ i l.
-      let li : i < length (s .flags) = omega (arith, ok .flags-count) in
-      ap (λ x. ltb 0 x) (field-at flagByte false 40 (s .flags) i li) ∙ flag-test (getD (s .flags) i false)) in
-      λ t. record { ticket = ticket-of (s .ticket) t; windows = ws t; flags = fs t; count = s .count }
-    where
-      flag-test : (b : Bool) → ltb 0 (flagByte b) ≡ b
-      flag-test true = refl
-      flag-test false = refl
+  state-of = state-stored s (ok .windows-count) (ok .flags-count)
 
 -- ---- a record that the code hands on: the struct of a readable state
 
 pub record Kept (r : Record) : Type 0 where
-  pub ticket-is : r .ticket ≡ stored (ticketOf (r .ticket))
+  pub ticket-is : r .ticket ≡ stored (content (r .ticket))
   pub flags-past : Past (r .ticket .events) (r .flags)
   pub opens-past : Past (r .ticket .events) (r .opens)
   pub closes-past : Past (r .ticket .events) (r .closes)
@@ -141,7 +93,7 @@ pub record Kept (r : Record) : Type 0 where
 
 pub kept-read : (s : State) → Readable s → Kept (storedState s)
 kept-read s ok = record {
-  ticket-is = ap stored (sym (ticket-of (s .ticket)));
+  ticket-is = ap stored (sym (content-stored (s .ticket)));
   flags-past = subst (λ n. Past n (storedState s .flags)) (ok .flags-count) (pad-past flagByte false refl (s .flags) (omega (arith, ok .flags-count, ok .valid .events-limit)));
   opens-past = subst (λ n. Past n (storedState s .opens)) (ok .windows-count) (pad-past (λ (w : Window). w .opens) origin refl (s .windows) (few s ok));
   closes-past = subst (λ n. Past n (storedState s .closes)) (ok .windows-count) (pad-past (λ (w : Window). w .closes) origin refl (s .windows) (few s ok));
@@ -158,35 +110,40 @@ kept-read s ok = record {
     by i (inr l) = omega (arith, pad-past flagByte false refl (s .flags) (omega (arith, ok .flags-count, ok .valid .events-limit)) .zero-past i l)
 
 module _ (r : Record) (ok : Kept r) where
-  counted : events (ticketOf (r .ticket)) ≡ r .ticket .events
-  counted = in-events (arraysOf (r .ticket))
+  counted : events (content (r .ticket)) ≡ r .ticket .events
+  counted = in-events (r .ticket)
 
   pub kept-few : r .ticket .events ≤ 40
   kept-few = omega (arith, counted, ok .readable .valid .events-limit)
 
   -- the flag and the window of a point, in the arrays
-  pub flag-of : (p : ℕ) → flagged (stateOf r .flags) p ≡ ltb 0 (at (0 ∷ r .flags) p)
-  flag-of = by-points (λ p. flagged (stateOf r .flags) p ≡ ltb 0 (at (0 ∷ r .flags) p)) (r .ticket .events) refl
+  pub flag-of : (p : ℕ) → flagged (stateOf r .flags) p ≡ eqb (at (0 ∷ r .flags) p) 1
+  unfolding flagList
+  flag-of = by-points (λ p. flagged (stateOf r .flags) p ≡ eqb (at (0 ∷ r .flags) p) 1) (r .ticket .events) refl
       (λ i l. flag-at (r .ticket .events) (r .flags) i l)
-      (λ q l. getD-past (false ∷ stateOf r .flags) false q (omega (arith, ok .readable .flags-count, counted)) ∙ ap (λ x. ltb 0 x) (sym (past-point (ok .flags-past) q l)))
+      (λ q l. getD-past (false ∷ stateOf r .flags) false q (omega (arith, ok .readable .flags-count, counted)) ∙ ap (λ x. eqb x 1) (sym (past-point (ok .flags-past) q l)))
 
-  pub open-of : (p : ℕ) → temporal.windowAt (stateOf r .windows) p .opens ≡ at (0 ∷ r .opens) p
-  open-of = by-points (λ p. temporal.windowAt (stateOf r .windows) p .opens ≡ at (0 ∷ r .opens) p) (r .ticket .events) refl
+  pub open-of : (p : ℕ) → temporal.windowOf (stateOf r .windows) p .opens ≡ at (0 ∷ r .opens) p
+  unfolding windowList
+  open-of = by-points (λ p. temporal.windowOf (stateOf r .windows) p .opens ≡ at (0 ∷ r .opens) p) (r .ticket .events) refl
       (λ i l. ap (λ (w : Window). w .opens) (window-at (r .ticket .events) (r .opens) (r .closes) i l))
       (λ q l. ap (λ (w : Window). w .opens) (getD-past (origin ∷ stateOf r .windows) origin q (omega (arith, ok .readable .windows-count, counted))) ∙ sym (past-point (ok .opens-past) q l))
 
-  pub close-of : (p : ℕ) → temporal.windowAt (stateOf r .windows) p .closes ≡ at (0 ∷ r .closes) p
-  close-of = by-points (λ p. temporal.windowAt (stateOf r .windows) p .closes ≡ at (0 ∷ r .closes) p) (r .ticket .events) refl
+  pub close-of : (p : ℕ) → temporal.windowOf (stateOf r .windows) p .closes ≡ at (0 ∷ r .closes) p
+  unfolding windowList
+  close-of = by-points (λ p. temporal.windowOf (stateOf r .windows) p .closes ≡ at (0 ∷ r .closes) p) (r .ticket .events) refl
       (λ i l. ap (λ (w : Window). w .closes) (window-at (r .ticket .events) (r .opens) (r .closes) i l))
       (λ q l. ap (λ (w : Window). w .closes) (getD-past (origin ∷ stateOf r .windows) origin q (omega (arith, ok .readable .windows-count, counted))) ∙ sym (past-point (ok .closes-past) q l))
 
   pub kept-number : r .number ≤ 40
   kept-number = omega (arith, ok .readable .number, flags-small (stateOf r .flags), ok .readable .flags-count, ok .readable .valid .events-limit)
 
-  pub kept-lies : Lie (arraysOf (r .ticket)) (r .opens) (r .closes)
-  kept-lies = subst (λ h. All (Lies h) (stateOf r .windows)) (in-horizon (arraysOf (r .ticket))) (ok .readable .windows-lie)
+  pub kept-lies : Lie (r .ticket) (r .opens) (r .closes)
+  unfolding windowList
+  kept-lies = ok .readable .windows-lie
 
   pub kept-stored : r ≡ storedState (stateOf r)
+  unfolding windowList flagList
   kept-stored = λ t. record {
     ticket = ok .ticket-is t;
     flags = past-pad flagByte false refl (stateOf r .flags) (omega (arith, kept-few, counted, ok .readable .flags-count)) (r .flags)
@@ -204,7 +161,7 @@ module _ (r : Record) (ok : Kept r) where
     number = r .number;
   }
     where
-      flag-back : (x : ℕ) → x ≤ 1 → x ≡ flagByte (ltb 0 x)
+      flag-back : (x : ℕ) → x ≤ 1 → x ≡ flagByte (eqb x 1)
       flag-back zero l = refl
       flag-back (suc zero) l = refl
       flag-back (suc (suc x)) l = absurd (omega arith)

@@ -4,7 +4,7 @@
 ghost use mathlib.Core.Path.{_≡_};
 ghost use mathlib.Core.List.{_∷_};
 ghost use Prim.Native.Nat.{_≤_};
-ghost use lib.Dec.{ltb};
+ghost use lib.Dec.{eqb};
 ghost use lib.ListN.{length};
 ghost use Rattle.temporal.specs.Ticket.{total};
 ghost use Rattle.temporal.specs.Plan.{State, plan, cause, commit, accepted, asking};
@@ -12,13 +12,13 @@ ghost use Rattle.temporal.specs.Run.{Valid};
 ghost use Rattle.ticket.specs.Parser.{wholly};
 ghost use Rattle.ticket.specs.Format.{readTicket, readState};
 ghost use Rattle.ticket.specs.Writer.{writeState};
-ghost use Rattle.ticket.specs.Writing.{over};
+ghost use Rattle.ticket.specs.Writing.{content, stateOf, over};
 ghost use Rattle.ticket.specs.Stored.{stored};
 ghost use Rattle.network.specs.Stored.{at};
 ghost use Rattle.plan.specs.Zeroed.{past};
 ghost use Rattle.runs.specs.Calls.{cleared, answered, afterReading, planning, committing};
 ghost use Rattle.plan.specs.Returned.{returned};
-ghost use Rattle.plan.specs.Structs.{arraysOf, ticketOf, stateOf, Kept};
+ghost use Rattle.plan.specs.Structs.{Kept};
 ghost use Rattle.plan.specs.Steps.{firstCause};
 ghost use Rattle.plan.specs.Meets.{Meets};
 
@@ -88,25 +88,6 @@ fn first_cause(
     0
 }
 
-// The same ticket in the struct of `windows`.
-fn arrays(t: ticket::Ticket) -> windows::Arrays
-    ensures { λ r. ⌜ r ≡ arraysOf t ⌝ }
-{
-    let owners = t.owners;
-    let from = t.from;
-    let to = t.to;
-    let bound = t.bound;
-    windows::Arrays {
-        horizon: t.horizon,
-        events: t.events,
-        owners,
-        rules: t.rules,
-        from,
-        to,
-        bound,
-    }
-}
-
 // The number that an array has for an event, 0 for point 0 and past the array.
 fn number_at(xs: &[u32; 40], event: u32) -> u32
     requires { ⌜ length (now xs) ≡ 40 ⌝ }
@@ -124,7 +105,7 @@ fn number_at(xs: &[u32; 40], event: u32) -> u32
 // Whether the flag of an event is set.
 fn flag_at(flags: &[u8; 40], event: u32) -> bool
     requires { ⌜ length (now flags) ≡ 40 ⌝ }
-    ensures { λ r. ⌜ r ≡ ltb 0 (at (0 ∷ now (flags .entry)) event) ⌝ }
+    ensures { λ r. ⌜ r ≡ eqb (at (0 ∷ now (flags .entry)) event) 1 ⌝ }
 {
     if event == 0 {
         return false;
@@ -132,7 +113,7 @@ fn flag_at(flags: &[u8; 40], event: u32) -> bool
     if 40 < event {
         return false;
     }
-    0 < flags[event as usize - 1]
+    flags[event as usize - 1] == 1
 }
 
 // The first cause to refuse a commitment to the record.
@@ -144,7 +125,7 @@ fn cause(r: ticket::Record, event: u32, opens: u32, closes: u32) -> u32
     let flags = r.flags;
     let firsts = r.opens;
     let lasts = r.closes;
-    let fit = windows::fit(arrays(t), &firsts, &lasts);
+    let fit = windows::fit(t, &firsts, &lasts);
     let n = t.events as u32;
     first_cause(
         fit,
@@ -171,7 +152,7 @@ fn write_out(r: ticket::Record, out: &mut [u8]) -> Answer
     let t = r.ticket;
     let opens = r.opens;
     let closes = r.closes;
-    let total = windows::total(arrays(t), &opens, &closes);
+    let total = windows::total(t, &opens, &closes);
     let written = ticket::write_record(r, out);
     Answer {
         number: 0,
@@ -182,14 +163,14 @@ fn write_out(r: ticket::Record, out: &mut [u8]) -> Answer
 
 // Plan a ticket that was read.
 fn plan_ticket(t: ticket::Ticket, out: &mut [u8], scratch: &mut [u32]) -> Answer
-    requires { ⌜ (t ≡ stored (ticketOf t)) × Valid (ticketOf t) ⌝ }
+    requires { ⌜ (t ≡ stored (content t)) × Valid (content t) ⌝ }
     requires { ⌜ (1948 ≤ length (now out)) × (8192 ≤ length (now scratch)) ⌝ }
-    ensures { λ a. ⌜ Meets (answered (now (out .entry)) (now (scratch .entry)) (plan (ticketOf t))) (now (scratch .entry)) a (now (out .exit)) (now (scratch .exit)) ⌝ }
+    ensures { λ a. ⌜ Meets (answered (now (out .entry)) (now (scratch .entry)) (plan (content t))) (now (scratch .entry)) a (now (out .exit)) (now (scratch .exit)) ⌝ }
 {
     let flags = [0u8; 40];
     let mut opens = [0u32; 40];
     let mut closes = [0u32; 40];
-    let found = windows::plan_windows(&mut scratch[..1824], arrays(t), &mut opens, &mut closes);
+    let found = windows::plan_windows(&mut scratch[..1824], t, &mut opens, &mut closes);
     if !found {
         return refusal(9);
     }
@@ -252,7 +233,7 @@ fn commit_event(
     let mut lasts = r.closes;
     windows::commit_window(
         &mut scratch[..1824],
-        arrays(t),
+        t,
         &mut flags,
         &mut firsts,
         &mut lasts,

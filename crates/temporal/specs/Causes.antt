@@ -6,7 +6,7 @@ use Prim.Native.Nat.{ℕ}
 use native.Mathlib.Omega.{arith}
 use lib.Dec.{T, not-T, T-not, eqb, ltb, nltb→le, eqb→eq}
 use lib.Arith.{le→nltb}
-use Rattle.temporal.specs.Ticket.{Ticket, events, Distinct, Window, windowAt, Fit, fits}
+use Rattle.temporal.specs.Ticket.{Ticket, events, Distinct, Window, windowOf, Fit, fits}
 use Rattle.temporal.specs.Ends.{fits-fit, fit-fits}
 use Rattle.temporal.specs.Plan.{State, Commitment, flagged, window, noEvent, notInside, cause}
 use Rattle.temporal.specs.Run.{Event, Inside, Acceptable, FirstCause, short, unfit, no-event, already, outside}
@@ -56,8 +56,8 @@ module _ (s : State) (c : Commitment) (P : ℕ → Type 0) where
       → (T (c .room) → T (not (fits (s .ticket) (s .windows))) → P 15)
       → (T (c .room) → T (fits (s .ticket) (s .windows)) → ¬ Event (s .ticket) (c .event) → P 11)
       → (T (c .room) → T (fits (s .ticket) (s .windows)) → Event (s .ticket) (c .event) → T (flagged (s .flags) (c .event)) → P 12)
-      → (T (c .room) → T (fits (s .ticket) (s .windows)) → Event (s .ticket) (c .event) → T (not (flagged (s .flags) (c .event))) → ¬ Inside (window c) (windowAt (s .windows) (c .event)) → P 13)
-      → (T (c .room) → T (fits (s .ticket) (s .windows)) → Event (s .ticket) (c .event) → T (not (flagged (s .flags) (c .event))) → Inside (window c) (windowAt (s .windows) (c .event)) → P 0)
+      → (T (c .room) → T (fits (s .ticket) (s .windows)) → Event (s .ticket) (c .event) → T (not (flagged (s .flags) (c .event))) → ¬ Inside (window c) (windowOf (s .windows) (c .event)) → P 13)
+      → (T (c .room) → T (fits (s .ticket) (s .windows)) → Event (s .ticket) (c .event) → T (not (flagged (s .flags) (c .event))) → Inside (window c) (windowOf (s .windows) (c .event)) → P 0)
       → P (cause s c)
   unfolding cause
   by-cause p10 p15 p11 p12 p13 p0 =
@@ -68,9 +68,9 @@ module _ (s : State) (c : Commitment) (P : ℕ → Type 0) where
       by (noEvent (s .ticket) (c .event)) 11 _ P (λ t. p11 r f (λ e. T-not (noEvent (s .ticket) (c .event)) (event-test (s .ticket) (c .event) e) t)) (λ x₂.
       let e = event (s .ticket) (c .event) x₂ in
       by (flagged (s .flags) (c .event)) 12 _ P (p12 r f e) (λ n.
-      by (notInside (window c) (windowAt (s .windows) (c .event))) 13 0 P
-      (λ t. p13 r f e n (λ i. T-not (notInside (window c) (windowAt (s .windows) (c .event))) (inside-test (window c) (windowAt (s .windows) (c .event)) i) t))
-      (λ x₃. p0 r f e n (inside (window c) (windowAt (s .windows) (c .event)) x₃))))))
+      by (notInside (window c) (windowOf (s .windows) (c .event))) 13 0 P
+      (λ t. p13 r f e n (λ i. T-not (notInside (window c) (windowOf (s .windows) (c .event))) (inside-test (window c) (windowOf (s .windows) (c .event)) i) t))
+      (λ x₃. p0 r f e n (inside (window c) (windowOf (s .windows) (c .event)) x₃))))))
 
 -- ---- the laws
 

@@ -1,115 +1,95 @@
--- A ticket, windows and flags in arrays: places past the counts mean nothing. What the public functions ask of them and what they leave.
--- Rests on temporal's definitions.
-use mathlib.Core.Path.{_≡_, refl, sym, _∙_}
+-- A ticket's struct, with windows and flags in arrays beside it. What the public functions ask of them and what they leave.
+-- What they hold is said by `ticket`'s `content` and `stateOf`: places past the counts mean nothing. Rests on these and on temporal's definitions.
+use mathlib.Core.Path.{_≡_, refl, sym, ap, _∙_}
 use mathlib.Core.Bool.{Bool, true, false, cond}
-use mathlib.Core.List.{List}
-use Prim.Native.Nat.{ℕ, suc, _+_, _*_, _-_, _≤_, _<_}
+use mathlib.Core.List.{List, [], _∷_, _++_}
+use Prim.Native.Nat.{ℕ, zero, suc, _+_, _*_, _-_, _≤_, _<_}
 use native.Mathlib.Omega.{arith}
-use lib.Dec.{ltb, leb→le}
+use lib.Dec.{eqb, leb→le}
 use lib.IntN.{ℤ, pos, negsuc}
 use lib.Signed.{_≤ℤ_}
 use lib.ListN.{length, getD, set, replicate}
-use lib.Seq.{ext-getD}
-use Rattle.temporal.specs.Lists.{All, All-below, tab, length-tab, getD-tab}
+use Rattle.temporal.specs.Lists.{All, All-below, tab, getD-tab, tab-set}
 use Rattle.temporal.specs.Bound.{above, below}
-use Rattle.temporal.specs.Ticket.{Rule, Ticket, events, Window, origin}
+use Rattle.temporal.specs.Ticket as temporal
+use Rattle.temporal.specs.Ticket.{Rule, events, Window, origin}
 use Rattle.temporal.specs.Ends.{Lies}
 use Rattle.temporal.specs.Run.{Valid, ValidRule}
-use Rattle.temporal.specs.Plan.{State, Commitment, accepted, refused, plan, commit}
+use Rattle.temporal.specs.Plan.{State, asking, accepted, refused, plan, commit}
 use Rattle.network.specs.Stored.{at}
-use Rattle.windows.specs.declared.Arrays.{Arrays}
+use Rattle.ticket.specs.Writing.{firsts, ownerIn, ruleIn, content, stateOf}
+use Rattle.ticket.specs.WritingLaws.{length-firsts}
+use Rattle.ticket.specs.declared.Ticket.{Ticket}
 
 -- ---- what stands in the arrays
 
-abbrev pub ruleIn : Arrays → ℕ → Rule
-ruleIn t j = record { from = at (t .from) j; to = at (t .to) j; bound = getD (t .bound) j (pos 0) }
-
-unfoldable pub ticketIn : Arrays → Ticket
-ticketIn t = record { horizon = t .horizon; owners = tab (t .events) (at (t .owners)); rules = tab (t .rules) (ruleIn t) }
-
+-- the windows and the flags of n events: those of `stateOf`, by their arrays alone
 unfoldable pub windowList : ℕ → List ℕ → List ℕ → List Window
-windowList n opens closes = tab n (λ i. record { opens = at opens i; closes = at closes i })
+windowList n opens closes = firsts n (λ i. record { opens = at opens i; closes = at closes i })
 
 unfoldable pub flagList : ℕ → List ℕ → List Bool
-flagList n flags = tab n (λ i. ltb 0 (at flags i))
+flagList n flags = firsts n (λ i. eqb (at flags i) 1)
 
-abbrev pub stateIn : Arrays → List ℕ → List ℕ → List ℕ → ℕ → State
-stateIn t flags opens closes count = record {
-  ticket = ticketIn t;
-  windows = windowList (t .events) opens closes;
-  flags = flagList (t .events) flags;
-  count = count;
-}
-
--- a commitment with room for its answer
-abbrev pub asks : ℕ → ℕ → ℕ → Commitment
-asks event opens closes = record { room = true; event = event; opens = opens; closes = closes }
+-- the state that a record's struct with these arrays says
+abbrev pub stateIn : Ticket → List ℕ → List ℕ → List ℕ → ℕ → State
+stateIn t flags opens closes count = stateOf (record { ticket = t; flags = flags; opens = opens; closes = closes; number = count })
 
 -- ---- laws
+
+tab-snoc : {A : Type 0} (n : ℕ) (f : ℕ → A) → tab (suc n) f ≡ tab n f ++ f n ∷ []
+unfolding tab
+tab-snoc zero f = refl
+tab-snoc (suc n) f = ap (λ xs. f 0 ∷ xs) (tab-snoc n (λ i. f (suc i)))
+
+pub firsts-tab : {A : Type 0} (n : ℕ) (f : ℕ → A) → firsts n f ≡ tab n f
+unfolding firsts tab
+firsts-tab zero f = refl
+firsts-tab (suc n) f = ap (λ xs. xs ++ f n ∷ []) (firsts-tab n f) ∙ sym (tab-snoc n f)
+
+getD-firsts : {A : Type 0} (n : ℕ) (f : ℕ → A) (d : A) (i : ℕ) → i < n → getD (firsts n f) i d ≡ f i
+getD-firsts n f d i l = ap (λ xs. getD xs i d) (firsts-tab n f) ∙ getD-tab n f d i l
+
+pub firsts-set : {A : Type 0} (n : ℕ) (f g : ℕ → A) (i : ℕ) (x : A) → i < n → g i ≡ x → ((j : ℕ) → (j ≡ i → ⊥) → g j ≡ f j) → firsts n g ≡ set (firsts n f) i x
+firsts-set n f g i x l e h = firsts-tab n g ∙ tab-set n f g i x l e h ∙ ap (λ xs. set xs i x) (sym (firsts-tab n f))
 
 abbrev pub noRule : Rule
 noRule = record { from = 0; to = 0; bound = pos 0 }
 
-abbrev pub rule : Ticket → ℕ → Rule
+abbrev pub rule : temporal.Ticket → ℕ → Rule
 rule k j = getD (k .rules) j noRule
 
-module _ (t : Arrays) where
-  pub in-horizon : ticketIn t .horizon ≡ t .horizon
-  unfolding ticketIn
-  in-horizon = refl
+module _ (t : Ticket) where
+  pub in-events : events (content t) ≡ t .events
+  in-events = length-firsts (t .events) (ownerIn t)
 
-  pub in-events : events (ticketIn t) ≡ t .events
-  unfolding ticketIn
-  in-events = length-tab (t .events) (at (t .owners))
+  pub in-rules : length (content t .rules) ≡ t .rules
+  in-rules = length-firsts (t .rules) (ruleIn t)
 
-  pub in-rules : length (ticketIn t .rules) ≡ t .rules
-  unfolding ticketIn
-  in-rules = length-tab (t .rules) (ruleIn t)
+  pub owner-in : (i : ℕ) → i < t .events → getD (content t .owners) i 0 ≡ at (t .owners) i
+  owner-in i l = getD-firsts (t .events) (ownerIn t) 0 i l
 
-  pub owner-in : (i : ℕ) → i < t .events → getD (ticketIn t .owners) i 0 ≡ at (t .owners) i
-  unfolding ticketIn
-  owner-in i l = getD-tab (t .events) (at (t .owners)) 0 i l
-
-  pub rule-in : (j : ℕ) → j < t .rules → rule (ticketIn t) j ≡ ruleIn t j
-  unfolding ticketIn
-  rule-in j l = getD-tab (t .rules) (ruleIn t) noRule j l
-
--- a ticket with these entries is the one in the arrays
-pub ticket-in : (k : Ticket) (t : Arrays) → t .horizon ≡ k .horizon → t .events ≡ events k → t .rules ≡ length (k .rules)
-    → ((i : ℕ) → i < t .events → at (t .owners) i ≡ getD (k .owners) i 0) → ((j : ℕ) → j < t .rules → ruleIn t j ≡ rule k j) → ticketIn t ≡ k
-unfolding ticketIn
-ticket-in k t h n m owners rules =
-    let o = ext-getD 0 (ticketIn t .owners) (k .owners) (in-events t ∙ n) (λ i l. let li : i < t .events = omega (arith, in-events t) in owner-in t i li ∙ owners i li) in
-    let r = ext-getD noRule (ticketIn t .rules) (k .rules) (in-rules t ∙ m) (λ j l. let lj : j < t .rules = omega (arith, in-rules t) in rule-in t j lj ∙ rules j lj) in
-    λ i. record { horizon = h i; owners = o i; rules = r i }
+  pub rule-in : (j : ℕ) → j < t .rules → rule (content t) j ≡ ruleIn t j
+  rule-in j l = getD-firsts (t .rules) (ruleIn t) noRule j l
 
 pub length-window-list : (n : ℕ) (opens closes : List ℕ) → length (windowList n opens closes) ≡ n
 unfolding windowList
-length-window-list n opens closes = length-tab n _
+length-window-list n opens closes = length-firsts n _
 
 pub window-at : (n : ℕ) (opens closes : List ℕ) (i : ℕ) → i < n → getD (windowList n opens closes) i origin ≡ record { opens = at opens i; closes = at closes i }
 unfolding windowList
-window-at n opens closes i l = getD-tab n _ origin i l
+window-at n opens closes i l = getD-firsts n _ origin i l
 
-pub flag-at : (n : ℕ) (flags : List ℕ) (i : ℕ) → i < n → getD (flagList n flags) i false ≡ ltb 0 (at flags i)
+pub length-flag-list : (n : ℕ) (flags : List ℕ) → length (flagList n flags) ≡ n
 unfolding flagList
-flag-at n flags i l = getD-tab n _ false i l
+length-flag-list n flags = length-firsts n _
 
-pub window-list : (n : ℕ) (opens closes : List ℕ) (ws : List Window) → length ws ≡ n
-    → ((i : ℕ) → i < n → (at opens i ≡ getD ws i origin .opens) × (at closes i ≡ getD ws i origin .closes)) → windowList n opens closes ≡ ws
-window-list n opens closes ws e h = ext-getD origin (windowList n opens closes) ws (length-window-list n opens closes ∙ sym e) (λ i l.
-    let li : i < n = omega (arith, length-window-list n opens closes) in
-    window-at n opens closes i li ∙ (λ j. record { opens = h i li .0 j; closes = h i li .1 j }))
-
-pub flag-list : (n : ℕ) (flags : List ℕ) (fs : List Bool) → length fs ≡ n → ((i : ℕ) → i < n → ltb 0 (at flags i) ≡ getD fs i false) → flagList n flags ≡ fs
+pub flag-at : (n : ℕ) (flags : List ℕ) (i : ℕ) → i < n → getD (flagList n flags) i false ≡ eqb (at flags i) 1
 unfolding flagList
-flag-list n flags fs e h = ext-getD false (flagList n flags) fs (length-tab n _ ∙ sym e) (λ i l.
-    let li : i < n = omega (arith, length-tab n (λ i. ltb 0 (at flags i))) in
-    flag-at n flags i li ∙ h i li)
+flag-at n flags i l = getD-firsts n _ false i l
 
 -- ---- what reading grants, by the arrays
 
-pub record Given (t : Arrays) : Type 0 where
+pub record Given (t : Ticket) : Type 0 where
   pub top : t .horizon ≤ 1000000
   pub few : t .events ≤ 40
   pub most : t .rules ≤ 256
@@ -128,9 +108,9 @@ unfolding below
 bound-below (pos n) h = omega arith
 bound-below (negsuc n) h = omega (arith, leb→le n 999999 (h .le))
 
-pub valid-given : (t : Arrays) → Valid (ticketIn t) → Given t
+pub valid-given : (t : Ticket) → Valid (content t) → Given t
 valid-given t ok = record {
-  top = rw (in-horizon t) at (ok .horizon-limit);
+  top = ok .horizon-limit;
   few = rw (in-events t) at (ok .events-limit);
   most = rw (in-rules t) at (ok .rules-limit);
   from-point = λ j l. valid j l .from-point;
@@ -140,16 +120,16 @@ valid-given t ok = record {
 }
   where
     valid : (j : ℕ) → j < t .rules → ValidRule (t .events) (ruleIn t j)
-    valid j l = rw (rule-in t j l, in-events t) at (All-below (ValidRule (events (ticketIn t))) noRule (ticketIn t .rules) (ok .rules-valid) j (omega (arith, in-rules t)))
+    valid j l = rw (rule-in t j l, in-events t) at (All-below (ValidRule (events (content t))) noRule (content t .rules) (ok .rules-valid) j (omega (arith, in-rules t)))
 
 -- ---- what the public functions ask and leave
 
 -- windows in order, within the horizon
-abbrev pub Lie : Arrays → List ℕ → List ℕ → Type 0
+abbrev pub Lie : Ticket → List ℕ → List ℕ → Type 0
 Lie t opens closes = All (Lies (t .horizon)) (windowList (t .events) opens closes)
 
 -- room for the edges, and whole arrays
-pub record Room (t : Arrays) (net opens closes : List ℕ) : Type 0 where
+pub record Room (t : Ticket) (net opens closes : List ℕ) : Type 0 where
   pub size : 20 * t .events + 4 * t .rules ≤ length net
   pub opens-long : length opens ≡ 40
   pub closes-long : length closes ≡ 40
@@ -162,21 +142,21 @@ pub record Within (n : ℕ) (xs xs' : List ℕ) : Type 0 where
 pub within-same : (n : ℕ) (xs : List ℕ) → Within n xs xs
 within-same n xs = record { long = refl; past = λ i l. refl }
 
-pub lie-at : (t : Arrays) (opens closes : List ℕ) → Lie t opens closes → (i : ℕ) → i < t .events → (at opens i ≤ at closes i) × (at closes i ≤ t .horizon)
+pub lie-at : (t : Ticket) (opens closes : List ℕ) → Lie t opens closes → (i : ℕ) → i < t .events → (at opens i ≤ at closes i) × (at closes i ≤ t .horizon)
 lie-at t opens closes L i l =
     rw (window-at (t .events) opens closes i l) at
     (All-below (Lies (t .horizon)) origin (windowList (t .events) opens closes) L i (omega (arith, length-window-list (t .events) opens closes)))
 
 -- planning: the windows of the plan, or no schedule
-pub record Planned (t : Arrays) (opens closes opens' closes' : List ℕ) (r : Bool) : Type 0 where
-  pub answer : plan (ticketIn t) ≡ cond r (accepted (stateIn t (replicate 40 0) opens' closes' 0)) (refused 9)
+pub record Planned (t : Ticket) (opens closes opens' closes' : List ℕ) (r : Bool) : Type 0 where
+  pub answer : plan (content t) ≡ cond r (accepted (stateIn t (replicate 40 0) opens' closes' 0)) (refused 9)
   pub lie : r ≡ true → Lie t opens' closes'
   pub opens-past : Within (t .events) opens opens'
   pub closes-past : Within (t .events) closes closes'
 
 -- a commitment that nothing refuses
-pub record Committed (t : Arrays) (flags opens closes flags' opens' closes' : List ℕ) (event first last : ℕ) : Type 0 where
-  pub answer : (count : ℕ) → commit (stateIn t flags opens closes count) (asks event first last) ≡ accepted (stateIn t flags' opens' closes' (suc count))
+pub record Committed (t : Ticket) (flags opens closes flags' opens' closes' : List ℕ) (event first last : ℕ) : Type 0 where
+  pub answer : (count : ℕ) → commit (stateIn t flags opens closes count) (asking event first last) ≡ accepted (stateIn t flags' opens' closes' (suc count))
   pub lie : Lie t opens' closes'
   pub flags-are : flags' ≡ set flags (event - 1) 1
   pub opens-past : Within (t .events) opens opens'

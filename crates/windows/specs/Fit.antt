@@ -9,13 +9,14 @@ use Rattle.temporal.specs.Lists.{T-true, T-false}
 use Rattle.temporal.specs.Ticket.{fits}
 use Rattle.temporal.specs.Ends.{fits-ends, ends-fits}
 use Rattle.network.specs.Stored.{at}
-use Rattle.windows.specs.declared.Arrays.{Arrays}
-use Rattle.windows.specs.Arrays.{ticketIn, windowList, length-window-list, Given, Lie, lie-at}
+use Rattle.ticket.specs.declared.Ticket.{Ticket}
+use Rattle.ticket.specs.Writing.{content}
+use Rattle.windows.specs.Arrays.{windowList, length-window-list, Given, Lie, lie-at}
 use Rattle.windows.specs.Nodes.{by-nodes, potentialOf}
 use Rattle.windows.specs.Rules.{Tests, Obeyed, obeyed-same, ends-obeyed, obeyed-ends}
 use Rattle.windows.specs.Pairs.{Pairs, pairs-potential}
 
-module _ {t : Arrays} (G : Given t) (opens closes : List ℕ) {pot : List ℕ} (L : Lie t opens closes) (P : Pairs (t .events) (at opens) (at closes) pot (t .events)) where
+module _ {t : Ticket} (G : Given t) (opens closes : List ℕ) {pot : List ℕ} (L : Lie t opens closes) (P : Pairs (t .events) (at opens) (at closes) pot (t .events)) where
   pub laid-most : (v : ℕ) → v ≤ t .events + t .events → at pot v ≤ 1000000
   laid-most zero l = omega (arith, P .nodes .origin)
   laid-most (suc u) l = by-nodes (λ v. at pot v ≤ 1000000) (t .events)
@@ -23,12 +24,12 @@ module _ {t : Arrays} (G : Given t) (opens closes : List ℕ) {pot : List ℕ} (
       (λ i li. omega (arith, P .second i li, lie-at t opens closes L i li, G .top))
       (suc u) (omega arith) (omega arith)
 
-  pub fit-answer : (r : Bool) → Tests r (Obeyed t (t .events) (at pot)) → fits (ticketIn t) (windowList (t .events) opens closes) ≡ r
+  pub fit-answer : (r : Bool) → Tests r (Obeyed t (t .events) (at pot)) → fits (content t) (windowList (t .events) opens closes) ≡ r
   fit-answer true T =
       let ws = windowList (t .events) opens closes in
-      T-true (fits (ticketIn t) ws) (ends-fits (ticketIn t) ws (obeyed-ends G ws (length-window-list (t .events) opens closes) L
+      T-true (fits (content t) ws) (ends-fits (content t) ws (obeyed-ends G ws (length-window-list (t .events) opens closes) L
       (obeyed-same G (t .events) (at pot) (potentialOf (t .events) ws) (λ v l. sym (pairs-potential opens closes P v (omega arith))) (T .holds refl))))
   fit-answer false T =
       let ws = windowList (t .events) opens closes in
-      T-false (fits (ticketIn t) ws) (not-T (fits (ticketIn t) ws) (λ f. T .fails refl
-      (obeyed-same G (t .events) (potentialOf (t .events) ws) (at pot) (λ v l. pairs-potential opens closes P v (omega arith)) (ends-obeyed G ws (fits-ends (ticketIn t) ws f)))))
+      T-false (fits (content t) ws) (not-T (fits (content t) ws) (λ f. T .fails refl
+      (obeyed-same G (t .events) (potentialOf (t .events) ws) (at pot) (λ v l. pairs-potential opens closes P v (omega arith)) (ends-obeyed G ws (fits-ends (content t) ws f)))))

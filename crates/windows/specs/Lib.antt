@@ -1,4 +1,5 @@
--- Planning and commitment on arrays: windows and schedules as potentials of difference networks.
+-- Planning and commitment on a ticket's struct: windows and schedules as potentials of difference networks.
+-- The contracts of the public functions stand in src/lib.rt and cite Arrays (what they ask and leave), Settle (Asked) and temporal's definitions.
 pub mod Arrays
 pub mod Nodes
 pub mod Rules

@@ -10,7 +10,7 @@ use lib.IntN.{pos}
 use lib.ListN.{length, getD}
 use Rattle.temporal.specs.Lists.{getD-past, below-or-not}
 use Rattle.temporal.specs.Bound.{biased}
-use Rattle.temporal.specs.Ticket as ticket
+use Rattle.temporal.specs.Ticket as temporal
 use Rattle.temporal.specs.Ticket.{Window, origin, weight, total}
 use Rattle.temporal.specs.Best.{Chosen, Sooner}
 use Rattle.network.specs.Network as network
@@ -19,8 +19,9 @@ use Rattle.network.specs.Stored.{at, flowOf, stored, Network}
 use Rattle.network.specs.Solve.{Spans}
 use Rattle.network.specs.Edges.{EdgeIs, edge-meets, meets-edge, Extends, extends-edge, Put, Boxes, boxes-kept, by-boxes}
 use Rattle.network.specs.Grow.{Flowless}
-use Rattle.windows.specs.declared.Arrays.{Arrays}
-use Rattle.windows.specs.Arrays.{ticketIn, Given}
+use Rattle.ticket.specs.declared.Ticket.{Ticket}
+use Rattle.ticket.specs.Writing.{content}
+use Rattle.windows.specs.Arrays.{Given}
 use Rattle.windows.specs.Nodes.{closeNode, close-most, windowsOf, length-windows, potentialOf, potential-open, potential-node, potential-windows, total-potential, total-windows}
 use Rattle.windows.specs.Rules.{Obeyed, obeyed-same, biased-most}
 
@@ -31,29 +32,29 @@ abbrev pub Order : List ℕ → ℕ → ℕ → Type 0
 Order net n k = (i : ℕ) → i < k → EdgeIs net (4 * n + i) (n + suc i) (suc i) 1000000
 
 -- the first k rules, from the edge `base` on, each from its `from` to the close of its `to`
-abbrev pub Ruled : List ℕ → Arrays → ℕ → ℕ → ℕ → Type 0
+abbrev pub Ruled : List ℕ → Ticket → ℕ → ℕ → ℕ → Type 0
 Ruled net t n base k = (j : ℕ) → j < k → EdgeIs net (base + j) (at (t .from) j) (closeNode n (at (t .to) j)) (biased (getD (t .bound) j (pos 0)))
 
 pub order-more : {net net' : List ℕ} (n k : ℕ) → Order net n k → Put net net' (4 * n + k) (n + suc k) (suc k) 1000000 → Order net' n (k + 1)
 order-more {net} {net'} n k O P = below-more (λ i. EdgeIs net' (4 * n + i) (n + suc i) (suc i) 1000000) k (λ i l. extends-edge (P .extends) (omega arith) (O i l)) (P .edge)
 
-pub ruled-more : {net net' : List ℕ} (t : Arrays) (n base k : ℕ) → Ruled net t n base k
+pub ruled-more : {net net' : List ℕ} (t : Ticket) (n base k : ℕ) → Ruled net t n base k
     → Put net net' (base + k) (at (t .from) k) (closeNode n (at (t .to) k)) (biased (getD (t .bound) k (pos 0))) → Ruled net' t n base (k + 1)
 ruled-more {net} {net'} t n base k R P =
     below-more (λ j. EdgeIs net' (base + j) (at (t .from) j) (closeNode n (at (t .to) j)) (biased (getD (t .bound) j (pos 0)))) k
     (λ j l. extends-edge (P .extends) (omega arith) (R j l)) (P .edge)
 
-abbrev pub edges : Arrays → ℕ
+abbrev pub edges : Ticket → ℕ
 edges t = 5 * t .events + t .rules
 
-pub record Built (net : List ℕ) (t : Arrays) (low high : ℕ → ℕ) : Type 0 where
+pub record Built (net : List ℕ) (t : Ticket) (low high : ℕ → ℕ) : Type 0 where
   pub size : 4 * edges t ≤ length net
   pub boxes : Boxes net (2 * t .events + 1) low high
   pub order : Order net (t .events) (t .events)
   pub ruled : Ruled net t (t .events) (5 * t .events) (t .rules)
 
 -- the parts, stored one after the other
-pub built-by : {one two net : List ℕ} {t : Arrays} {low high : ℕ → ℕ} → 4 * edges t ≤ length net
+pub built-by : {one two net : List ℕ} {t : Ticket} {low high : ℕ → ℕ} → 4 * edges t ≤ length net
     → Boxes one (2 * t .events + 1) low high → Extends one two (4 * t .events) → Order two (t .events) (t .events)
     → Extends two net (5 * t .events) → Ruled net t (t .events) (5 * t .events) (t .rules) → Built net t low high
 built-by {t = t} size B x O y R = record {
@@ -85,7 +86,7 @@ by-edges P n m boxes order ruled e l =
 
 -- ---- what they ask of a potential
 
-pub record Meeting (t : Arrays) (low high p : ℕ → ℕ) : Type 0 where
+pub record Meeting (t : Ticket) (low high p : ℕ → ℕ) : Type 0 where
   pub origin : p 0 ≡ 0
   pub above-low : (v : ℕ) → 0 < v → v < 2 * t .events + 1 → low v ≤ p v
   pub below-high : (v : ℕ) → 0 < v → v < 2 * t .events + 1 → p v ≤ high v
@@ -93,10 +94,10 @@ pub record Meeting (t : Arrays) (low high p : ℕ → ℕ) : Type 0 where
   pub obeys : Obeyed t (t .events) p
 
 -- boxes that can be stored
-abbrev pub Limits : Arrays → (ℕ → ℕ) → (ℕ → ℕ) → Type 0
+abbrev pub Limits : Ticket → (ℕ → ℕ) → (ℕ → ℕ) → Type 0
 Limits t low high = (v : ℕ) → 0 < v → v < 2 * t .events + 1 → (low v ≤ 1000000) × (high v ≤ 1000000)
 
-pub meeting-same : {t : Arrays} → Given t → (low high p q : ℕ → ℕ) → ((v : ℕ) → v < 2 * t .events + 1 → q v ≡ p v) → Meeting t low high p → Meeting t low high q
+pub meeting-same : {t : Ticket} → Given t → (low high p q : ℕ → ℕ) → ((v : ℕ) → v < 2 * t .events + 1 → q v ≡ p v) → Meeting t low high p → Meeting t low high q
 meeting-same {t} G low high p q e M = record {
   origin = e 0 (omega arith) ∙ M .origin;
   above-low = λ v lo hi. omega (arith, e v hi, M .above-low v lo hi);
@@ -106,11 +107,11 @@ meeting-same {t} G low high p q e M = record {
 }
 
 -- n windows within the boxes that keep the rules
-pub record Allowed (t : Arrays) (low high : ℕ → ℕ) (ws : List Window) : Type 0 where
+pub record Allowed (t : Ticket) (low high : ℕ → ℕ) (ws : List Window) : Type 0 where
   pub count : length ws ≡ t .events
   pub meeting : Meeting t low high (potentialOf (t .events) ws)
 
-module _ {net : List ℕ} {t : Arrays} {low high : ℕ → ℕ} (B : Built net t low high) (G : Given t) (L : Limits t low high) where
+module _ {net : List ℕ} {t : Ticket} {low high : ℕ → ℕ} (B : Built net t low high) (G : Given t) (L : Limits t low high) where
   feasible-meeting : (p : ℕ → ℕ) → Feasible (stored (t .events) (edges t) net) p → Meeting t low high p
   feasible-meeting p F =
       let n = t .events in
@@ -203,10 +204,10 @@ module _ {net : List ℕ} {t : Arrays} {low high : ℕ → ℕ} (B : Built net t
     met : Meeting t low high p
     met = feasible-meeting p (best .widest .feasible)
 
-    the-total : total (ticketIn t) (windowsOf (t .events) p) ≡ network.total (stored (t .events) (edges t) net) w p
+    the-total : total (content t) (windowsOf (t .events) p) ≡ network.total (stored (t .events) (edges t) net) w p
     the-total = total-windows net (edges t) t w owned p (met .origin)
 
-    wide : (vs : List Window) → Allowed t low high vs → (total (ticketIn t) vs ≡ network.total (stored (t .events) (edges t) net) w (potentialOf (t .events) vs))
+    wide : (vs : List Window) → Allowed t low high vs → (total (content t) vs ≡ network.total (stored (t .events) (edges t) net) w (potentialOf (t .events) vs))
         × Feasible (stored (t .events) (edges t) net) (potentialOf (t .events) vs) × Ordered (stored (t .events) (edges t) net) (potentialOf (t .events) vs)
     wide vs a = (
       total-potential net (edges t) t w owned vs (a .count),
@@ -216,7 +217,7 @@ module _ {net : List ℕ} {t : Arrays} {low high : ℕ → ℕ} (B : Built net t
           subst (λ j. potentialOf (t .events) vs j ≤ potentialOf (t .events) vs (t .events + j)) e (a .meeting .ordered (i - 1) (omega arith)),
     )
 
-    sooner : (vs : List Window) → Allowed t low high vs → total (ticketIn t) vs ≡ total (ticketIn t) (windowsOf (t .events) p)
+    sooner : (vs : List Window) → Allowed t low high vs → total (content t) vs ≡ total (content t) (windowsOf (t .events) p)
         → (v : ℕ) → v < 2 * t .events + 1 → p v ≤ potentialOf (t .events) vs v
     sooner vs a e =
         let r = wide vs a in
@@ -226,7 +227,7 @@ module _ {net : List ℕ} {t : Arrays} {low high : ℕ → ℕ} (B : Built net t
           widest = λ q f o. omega (arith, the-total, r .0, best .widest .widest q f o);
         }
 
-    early : (vs : List Window) → Allowed t low high vs → total (ticketIn t) vs ≡ total (ticketIn t) (windowsOf (t .events) p) → Sooner (windowsOf (t .events) p) vs
+    early : (vs : List Window) → Allowed t low high vs → total (content t) vs ≡ total (content t) (windowsOf (t .events) p) → Sooner (windowsOf (t .events) p) vs
     early vs a e q =
         let n = t .events in
         let x = windowsOf n p in
@@ -249,11 +250,11 @@ module _ {net : List ℕ} {t : Arrays} {low high : ℕ → ℕ} (B : Built net t
           ),
         ))
         (λ (l : suc n ≤ q).
-        let none : ticket.windowAt x q ≡ origin = getD-past (origin ∷ x) origin q (omega (arith, length-windows n p)) in
+        let none : temporal.windowOf x q ≡ origin = getD-past (origin ∷ x) origin q (omega (arith, length-windows n p)) in
         (omega (arith, ap (λ (w : Window). w .opens) none), omega (arith, ap (λ (w : Window). w .closes) none)))
         (below-or-not q (suc n))
 
-    pub potential-chosen : Chosen (ticketIn t) (Allowed t low high) (windowsOf (t .events) p)
+    pub potential-chosen : Chosen (content t) (Allowed t low high) (windowsOf (t .events) p)
     potential-chosen = record {
       allowed = record {
         count = length-windows (t .events) p;

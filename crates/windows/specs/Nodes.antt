@@ -10,14 +10,15 @@ use lib.Dec.{leb}
 use borrow.Author.Tests.{le-leb, lt-leb}
 use lib.ListN.{length, getD}
 use Rattle.temporal.specs.Lists.{tab, length-tab, getD-tab, below-or-not}
-use Rattle.temporal.specs.Ticket as ticket
+use Rattle.temporal.specs.Ticket as temporal
 use Rattle.temporal.specs.Ticket.{Window, origin, weight, totalOf, total}
 use Rattle.network.specs.Sum.{sum, sum-cong, sum-first}
 use Rattle.network.specs.Network as network
 use Rattle.network.specs.Network.{over}
 use Rattle.network.specs.Stored.{at, stored}
-use Rattle.windows.specs.declared.Arrays.{Arrays}
-use Rattle.windows.specs.Arrays.{ticketIn, in-events, owner-in}
+use Rattle.ticket.specs.declared.Ticket.{Ticket}
+use Rattle.ticket.specs.Writing.{content}
+use Rattle.windows.specs.Arrays.{in-events, owner-in}
 
 -- the node of a point's close; for n = 0 the point itself
 unfoldable pub closeNode : ℕ → ℕ → ℕ
@@ -58,37 +59,37 @@ by-nodes P n opens closes v lo hi =
 
 -- ---- there and back
 
-abbrev pub windowAt : ℕ → (ℕ → ℕ) → ℕ → Window
-windowAt n p i = record { opens = p (suc i); closes = p (n + suc i) }
+abbrev pub windowFrom : ℕ → (ℕ → ℕ) → ℕ → Window
+windowFrom n p i = record { opens = p (suc i); closes = p (n + suc i) }
 
 -- the windows of a potential
 unfoldable pub windowsOf : ℕ → (ℕ → ℕ) → List Window
-windowsOf n p = tab n (windowAt n p)
+windowsOf n p = tab n (windowFrom n p)
 
 -- the potential of windows
 unfoldable pub potentialOf : ℕ → List Window → ℕ → ℕ
-potentialOf n ws v = cond (leb v n) (ticket.windowAt ws v .opens) (ticket.windowAt ws (v - n) .closes)
+potentialOf n ws v = cond (leb v n) (temporal.windowOf ws v .opens) (temporal.windowOf ws (v - n) .closes)
 
 pub length-windows : (n : ℕ) (p : ℕ → ℕ) → length (windowsOf n p) ≡ n
 unfolding windowsOf
-length-windows n p = length-tab n (windowAt n p)
+length-windows n p = length-tab n (windowFrom n p)
 
-windows-at : (n : ℕ) (p : ℕ → ℕ) (i : ℕ) → i < n → getD (windowsOf n p) i origin ≡ windowAt n p i
+windows-at : (n : ℕ) (p : ℕ → ℕ) (i : ℕ) → i < n → getD (windowsOf n p) i origin ≡ windowFrom n p i
 unfolding windowsOf
-windows-at n p i l = getD-tab n (windowAt n p) origin i l
+windows-at n p i l = getD-tab n (windowFrom n p) origin i l
 
 module _ (n : ℕ) (ws : List Window) where
-  pub potential-open : (q : ℕ) → q ≤ n → potentialOf n ws q ≡ ticket.windowAt ws q .opens
+  pub potential-open : (q : ℕ) → q ≤ n → potentialOf n ws q ≡ temporal.windowOf ws q .opens
   unfolding potentialOf
   potential-open q l = rw (le-leb q n l)
 
-  pub potential-close : (q : ℕ) → 0 < q → potentialOf n ws (n + q) ≡ ticket.windowAt ws q .closes
+  pub potential-close : (q : ℕ) → 0 < q → potentialOf n ws (n + q) ≡ temporal.windowOf ws q .closes
   unfolding potentialOf
   potential-close q l =
       let e : n + q - n ≡ q = omega arith in
       rw (lt-leb (n + q) n (omega arith), e)
 
-  pub potential-node : (q : ℕ) → potentialOf n ws (closeNode n q) ≡ ticket.windowAt ws q .closes
+  pub potential-node : (q : ℕ) → potentialOf n ws (closeNode n q) ≡ temporal.windowOf ws q .closes
   unfolding closeNode
   potential-node zero = potential-open 0 (omega arith)
   potential-node (suc i) = potential-close (suc i) (omega arith)
@@ -113,23 +114,23 @@ total-sum (o ∷ os) (w ∷ ws) e =
     ∙ sym (sum-first (length ws) (λ i. weight (getD (o ∷ os) i 0) * (getD (w ∷ ws) i origin .closes - getD (w ∷ ws) i origin .opens)))
 
 -- of the windows of the ticket in arrays
-pub total-in : (t : Arrays) (ws : List Window) → length ws ≡ t .events
-    → total (ticketIn t) ws ≡ sum (t .events) (λ i. weight (at (t .owners) i) * (getD ws i origin .closes - getD ws i origin .opens))
+pub total-in : (t : Ticket) (ws : List Window) → length ws ≡ t .events
+    → total (content t) ws ≡ sum (t .events) (λ i. weight (at (t .owners) i) * (getD ws i origin .closes - getD ws i origin .opens))
 total-in t ws e =
-    total-sum (ticketIn t .owners) ws (in-events t ∙ sym e)
-    ∙ ap (λ k. sum k (λ i. weight (getD (ticketIn t .owners) i 0) * (getD ws i origin .closes - getD ws i origin .opens))) e
+    total-sum (content t .owners) ws (in-events t ∙ sym e)
+    ∙ ap (λ k. sum k (λ i. weight (getD (content t .owners) i 0) * (getD ws i origin .closes - getD ws i origin .opens))) e
     ∙ sum-cong _ _ (t .events) (λ i l. ap (λ o. weight o * (getD ws i origin .closes - getD ws i origin .opens)) (owner-in t i l))
 
 -- the network's total is the windows' where each event weighs what its owner does
-module _ (net : List ℕ) (m : ℕ) (t : Arrays) (w : ℕ → ℕ) (owned : (i : ℕ) → i < t .events → w (suc i) ≡ weight (at (t .owners) i)) where
-  pub total-potential : (ws : List Window) → length ws ≡ t .events → total (ticketIn t) ws ≡ network.total (stored (t .events) m net) w (potentialOf (t .events) ws)
+module _ (net : List ℕ) (m : ℕ) (t : Ticket) (w : ℕ → ℕ) (owned : (i : ℕ) → i < t .events → w (suc i) ≡ weight (at (t .owners) i)) where
+  pub total-potential : (ws : List Window) → length ws ≡ t .events → total (content t) ws ≡ network.total (stored (t .events) m net) w (potentialOf (t .events) ws)
   unfolding over
   total-potential ws e =
       let n = t .events in
       total-in t ws e
       ∙ sum-cong _ _ n (λ i l. sym (ap₂ _*_ (owned i l) (ap₂ _-_ (potential-close n ws (suc i) (omega arith)) (potential-open n ws (suc i) l))))
 
-  pub total-windows : (p : ℕ → ℕ) → p 0 ≡ 0 → total (ticketIn t) (windowsOf (t .events) p) ≡ network.total (stored (t .events) m net) w p
+  pub total-windows : (p : ℕ → ℕ) → p 0 ≡ 0 → total (content t) (windowsOf (t .events) p) ≡ network.total (stored (t .events) m net) w p
   unfolding over
   total-windows p z =
       let n = t .events in

@@ -5,7 +5,7 @@ use mathlib.Core.Bool.{cond}
 use mathlib.Core.List.{List}
 use native.Mathlib.Omega.{arith}
 use borrow.Author.Count.{below-none, below-more}
-use lib.Dec.{ltb}
+use lib.Dec.{eqb}
 use lib.ListN.{length, set, length-set, replicate}
 use lib.Seq.{getD-set-same, getD-set-other}
 use Rattle.temporal.specs.Lists.{tab-cong}
@@ -13,7 +13,7 @@ use Rattle.temporal.specs.Ticket.{weight, weight-small, Window}
 use Rattle.network.specs.Lists.{set-more}
 use Rattle.network.specs.Solve.{Weights, weights-none, weights-more}
 use Rattle.network.specs.Stored.{at}
-use Rattle.windows.specs.Arrays.{windowList, window-at, Within, within-same}
+use Rattle.windows.specs.Arrays.{windowList, firsts-tab, window-at, Within, within-same}
 use Rattle.windows.specs.Nodes.{by-nodes, windowsOf, potentialOf, potential-open, potential-close}
 
 -- ---- two numbers an event
@@ -59,10 +59,10 @@ pairs-more {n} {f} {g} {xs} {xs'} {k} lt P U = record {
 
 -- the boxes of a commitment: the least open and the greatest close
 abbrev pub lowOpen : List ℕ → List ℕ → ℕ → ℕ
-lowOpen flags opens i = cond (ltb 0 (at flags i)) (at opens i) 0
+lowOpen flags opens i = cond (eqb (at flags i) 1) (at opens i) 0
 
 abbrev pub highClose : ℕ → List ℕ → List ℕ → ℕ → ℕ
-highClose h flags closes i = cond (ltb 0 (at flags i)) (at closes i) h
+highClose h flags closes i = cond (eqb (at flags i) 1) (at closes i) h
 
 pub record Limited (h n : ℕ) (flags opens closes low high : List ℕ) : Type 0 where
   pub lows : Pairs n (lowOpen flags opens) (at closes) low n
@@ -125,7 +125,7 @@ read-more {n} {pot} {opens} {closes} {opens'} {closes'} {k} lo lc R = record {
 
 pub read-windows : {n : ℕ} {pot opens closes opens' closes' : List ℕ} → Read n pot opens closes opens' closes' n → windowList n opens' closes' ≡ windowsOf n (at pot)
 unfolding windowList windowsOf
-read-windows {n} {pot} {opens} {closes} {opens'} {closes'} R = tab-cong n _ _ (λ i l.
+read-windows {n} {pot} {opens} {closes} {opens'} {closes'} R = firsts-tab n _ ∙ tab-cong n _ _ (λ i l.
     let p : i + 1 ≡ suc i = omega arith in
     let q : n + i + 1 ≡ n + suc i = omega arith in
     let a = R .opened i l ∙ ap (at pot) p in

@@ -17,7 +17,7 @@ use Rattle.network.specs.Network.{Meets}
 use Rattle.network.specs.Stored.{at, stored}
 use Rattle.network.specs.Edges.{edge-meets, meets-edge, Boxes, boxes-kept, by-boxes}
 use Rattle.network.specs.Grow.{Growing, Admits, boxes-growing}
-use Rattle.windows.specs.declared.Arrays.{Arrays}
+use Rattle.ticket.specs.declared.Ticket.{Ticket}
 use Rattle.windows.specs.Arrays.{Given}
 use Rattle.windows.specs.Nodes.{close-self}
 use Rattle.windows.specs.Rules.{differ, Timed}
@@ -50,24 +50,24 @@ low-set {n} {h} {xs} {i} {x} p li l L = record {
 }
 
 -- whether there is a schedule; its times, if there is one
-pub record Decided (t : Arrays) (times : List ℕ) (r : Bool) : Type 0 where
+pub record Decided (t : Ticket) (times : List ℕ) (r : Bool) : Type 0 where
   pub found : r ≡ true → Timed t (at times)
   pub none : r ≡ false → (p : ℕ → ℕ) → Timed t p → ⊥
 
-pub decided-yes : {t : Arrays} {times : List ℕ} → Timed t (at times) → Decided t times true
+pub decided-yes : {t : Ticket} {times : List ℕ} → Timed t (at times) → Decided t times true
 decided-yes T = record { found = λ _. T; none = λ e. differ e }
 
-pub decided-no : {t : Arrays} {times : List ℕ} → ((p : ℕ → ℕ) → Timed t p → ⊥) → Decided t times false
+pub decided-no : {t : Ticket} {times : List ℕ} → ((p : ℕ → ℕ) → Timed t p → ⊥) → Decided t times false
 decided-no h = record { found = λ e. differ (sym e); none = λ _. h }
 
 -- the first j rules are in the network of the points
-pub record Tried (net : List ℕ) (size : ℕ) (t : Arrays) (pot tails heads : List ℕ) (j : ℕ) : Type 0 where
+pub record Tried (net : List ℕ) (size : ℕ) (t : Ticket) (pot tails heads : List ℕ) (j : ℕ) : Type 0 where
   pub long : length net ≡ size
   pub boxes : Boxes net (t .events + 1) (λ v. 0) (λ v. t .horizon)
   pub ruled : Ruled net t 0 (2 * t .events) j
   pub growing : Growing net (2 * t .events + j) (t .events + 1) pot tails heads
 
-pub tried-start : {net : List ℕ} {t : Arrays} {pot : List ℕ} → Given t → 8 * t .events ≤ length net → Low (t .events) (t .horizon) pot
+pub tried-start : {net : List ℕ} {t : Ticket} {pot : List ℕ} → Given t → 8 * t .events ≤ length net → Low (t .events) (t .horizon) pot
     → Boxes net (t .events + 1) (at (replicate 81 0)) (at (replicate 81 (t .horizon))) → Tried net (length net) t pot (replicate 400 0) (replicate 400 0) 0
 tried-start {net} {t} {pot} G size L B =
     let n = t .events in
@@ -86,7 +86,7 @@ tried-start {net} {t} {pot} G size L B =
     }
 
 -- a rule more, or none with it
-module _ {net net' : List ℕ} {size : ℕ} {t : Arrays} {pot tails heads : List ℕ} {j : ℕ} (T : Tried net size t pot tails heads j)
+module _ {net net' : List ℕ} {size : ℕ} {t : Ticket} {pot tails heads : List ℕ} {j : ℕ} (T : Tried net size t pot tails heads j)
     {pot' tails' heads' : List ℕ} {r : Bool}
     (A : Admits net net' (2 * t .events + j) (t .events + 1) pot' tails' heads' (at (t .from) j) (at (t .to) j) (biased (getD (t .bound) j (pos 0))) r) where
   pub tried-more : r ≡ true → Tried net' size t pot' tails' heads' (j + 1)
@@ -120,7 +120,7 @@ module _ {net net' : List ℕ} {size : ℕ} {t : Arrays} {pot tails heads : List
           (below-or-not e (2 * t .events))
 
 -- with all rules in the network, its potential gives a schedule's times
-pub tried-timed : {net : List ℕ} {size : ℕ} {t : Arrays} {pot tails heads : List ℕ} → Tried net size t pot tails heads (t .rules) → Timed t (at pot)
+pub tried-timed : {net : List ℕ} {size : ℕ} {t : Ticket} {pot tails heads : List ℕ} → Tried net size t pot tails heads (t .rules) → Timed t (at pot)
 tried-timed {t = t} {pot = pot} T =
     let P = T .growing .flowless .potential in
     record {

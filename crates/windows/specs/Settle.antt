@@ -4,15 +4,15 @@ use mathlib.Core.Path.{_≡_, refl, sym, ap, _∙_}
 use mathlib.Core.Bool.{Bool, true, false}
 use mathlib.Core.List.{List}
 use native.Mathlib.Omega.{arith}
-use lib.Dec.{T, ltb}
+use lib.Dec.{T, eqb}
 use lib.ListN.{length, getD, set, length-set, replicate, length-replicate, getD-replicate}
-use lib.Seq.{getD-set-same, getD-set-other}
-use Rattle.temporal.specs.Lists.{All, tab-set}
-use Rattle.temporal.specs.Ticket as ticket
+use lib.Seq.{ext-getD, getD-set-same, getD-set-other}
+use Rattle.temporal.specs.Lists.{All}
+use Rattle.temporal.specs.Ticket as temporal
 use Rattle.temporal.specs.Ticket.{events, Window, origin}
 use Rattle.temporal.specs.Ends.{Ends, Lies, schedule-test, fit-ends}
 use Rattle.temporal.specs.Best.{Chosen}
-use Rattle.temporal.specs.Plan.{accepted, refused, put, plan, cause, commit}
+use Rattle.temporal.specs.Plan.{asking, accepted, refused, put, plan, cause, commit}
 use Rattle.temporal.specs.FitSets.{Grows, narrowed, test-grows, itself-grows}
 use Rattle.temporal.specs.Answers.{plan-is, plan-refused, commit-is}
 use Rattle.temporal.specs.Run.{Valid, Acceptable}
@@ -20,8 +20,9 @@ use Rattle.temporal.specs.Causes.{acceptable}
 use Rattle.temporal.specs.RunHolds.{distinct}
 use Rattle.network.specs.Lists.{zeros-at}
 use Rattle.network.specs.Stored.{at}
-use Rattle.windows.specs.declared.Arrays.{Arrays}
-use Rattle.windows.specs.Arrays.{ticketIn, windowList, flagList, stateIn, asks, in-horizon, in-events, window-at, flag-at, flag-list, Given, Lie, Within}
+use Rattle.ticket.specs.declared.Ticket.{Ticket}
+use Rattle.ticket.specs.Writing.{content}
+use Rattle.windows.specs.Arrays.{windowList, flagList, stateIn, firsts-set, length-flag-list, in-events, window-at, flag-at, Given, Lie, Within}
 use Rattle.windows.specs.Nodes.{closeNode, close-self, by-nodes, potentialOf}
 use Rattle.windows.specs.Rules.{timesOf, schedule-timed, timed-schedule}
 use Rattle.windows.specs.Network.{Meeting, meeting-same, Limits, Allowed}
@@ -30,14 +31,14 @@ use Rattle.windows.specs.Schedule.{Decided}
 use Rattle.windows.specs.Pairs.{Pairs, Limited, pairs-potential, replicate-most}
 
 -- boxes and a potential within them that keeps the rules
-pub record Started (t : Arrays) (low high : ℕ → ℕ) (pot : List ℕ) : Type 0 where
+pub record Started (t : Ticket) (low high : ℕ → ℕ) (pot : List ℕ) : Type 0 where
   pub limits : Limits t low high
   pub long : length pot ≡ 81
   pub meeting : Meeting t low high (at pot)
 
 -- ---- planning, from the times of a schedule
 
-module _ {t : Arrays} (G : Given t) where
+module _ {t : Ticket} (G : Given t) where
   free : Free t (at (replicate 81 0)) (at (replicate 81 (t .horizon)))
   free = record { lowest = λ v lo hi. getD-replicate {A = ℕ} 81 v 0 0 (omega (arith, G .few)); highest = λ v lo hi. getD-replicate {A = ℕ} 81 v (t .horizon) 0 (omega (arith, G .few)) }
 
@@ -75,32 +76,36 @@ module _ {t : Arrays} (G : Given t) where
       closed zero l = P .nodes .origin ∙ sym (D .found e .origin)
       closed (suc i) l = P .second i l
 
-  no-flags : flagList (t .events) (replicate 40 0) ≡ replicate (events (ticketIn t)) false
-  no-flags = flag-list (t .events) (replicate 40 0) (replicate (events (ticketIn t)) false) (length-replicate (events (ticketIn t)) false ∙ in-events t)
-      (λ i l. ap (λ x. ltb 0 x) (zeros-at 40 i) ∙ sym (none (events (ticketIn t)) i))
+  no-flags : flagList (t .events) (replicate 40 0) ≡ replicate (events (content t)) false
+  no-flags = ext-getD false (flagList (t .events) (replicate 40 0)) (replicate (events (content t)) false)
+      (length-flag-list (t .events) (replicate 40 0) ∙ sym (length-replicate (events (content t)) false ∙ in-events t))
+      (λ i l.
+      let li : i < t .events = omega (arith, length-flag-list (t .events) (replicate 40 0)) in
+      flag-at (t .events) (replicate 40 0) i li ∙ ap (λ x. eqb x 1) (zeros-at 40 i) ∙ sym (none (events (content t)) i))
     where
       none : (n i : ℕ) → getD (replicate n false) i false ≡ false
       none zero i = refl
       none (suc n) zero = refl
       none (suc n) (suc i) = none n i
 
-  module _ (opens closes : List ℕ) (C : Chosen (ticketIn t) (Allowed t (at (replicate 81 0)) (at (replicate 81 (t .horizon)))) (windowList (t .events) opens closes)) where
-    pub plan-answer : {times : List ℕ} {r : Bool} → Decided t times r → r ≡ true → plan (ticketIn t) ≡ accepted (stateIn t (replicate 40 0) opens closes 0)
+  module _ (opens closes : List ℕ) (C : Chosen (content t) (Allowed t (at (replicate 81 0)) (at (replicate 81 (t .horizon)))) (windowList (t .events) opens closes)) where
+    pub plan-answer : {times : List ℕ} {r : Bool} → Decided t times r → r ≡ true → plan (content t) ≡ accepted (stateIn t (replicate 40 0) opens closes 0)
+    unfolding windowList flagList
     plan-answer {times} D e =
         rw no-flags
-        (plan-is (ticketIn t) (timesOf (t .events) (at times)) (windowList (t .events) opens closes)
-        (schedule-test (ticketIn t) (timesOf (t .events) (at times)) (timed-schedule G (at times) (D .found e))) (free-chosen G free (windowList (t .events) opens closes) C))
+        (plan-is (content t) (timesOf (t .events) (at times)) (windowList (t .events) opens closes)
+        (schedule-test (content t) (timesOf (t .events) (at times)) (timed-schedule G (at times) (D .found e))) (free-chosen G free (windowList (t .events) opens closes) C))
 
     pub plan-lies : Lie t opens closes
     plan-lies = allowed-lies G (at (replicate 81 0)) (at (replicate 81 (t .horizon))) (windowList (t .events) opens closes) (free-top G free) (C .allowed)
 
-  pub plan-none : {times : List ℕ} {r : Bool} → Decided t times r → r ≡ false → plan (ticketIn t) ≡ refused 9
-  plan-none D e = plan-refused (ticketIn t) (λ ts s. D .none e (ticket.time ts) (schedule-timed G ts s))
+  pub plan-none : {times : List ℕ} {r : Bool} → Decided t times r → r ≡ false → plan (content t) ≡ refused 9
+  plan-none D e = plan-refused (content t) (λ ts s. D .none e (temporal.time ts) (schedule-timed G ts s))
 
 -- ---- a commitment, from fit windows
 
-module _ {t : Arrays} (G : Given t) {flags opens closes low high : List ℕ} (L : Limited (t .horizon) (t .events) flags opens closes low high)
-    (E : Ends (ticketIn t) (windowList (t .events) opens closes)) where
+module _ {t : Ticket} (G : Given t) {flags opens closes low high : List ℕ} (L : Limited (t .horizon) (t .events) flags opens closes low high)
+    (E : Ends (content t) (windowList (t .events) opens closes)) where
   kept : Kept t (flagList (t .events) flags) (windowList (t .events) opens closes) (at low) (at high)
   kept =
       let n = t .events in
@@ -115,7 +120,7 @@ module _ {t : Arrays} (G : Given t) {flags opens closes low high : List ℕ} (L 
   ends-at : (i : ℕ) → i < t .events → (at opens i ≤ at closes i) × (at closes i ≤ t .horizon)
   ends-at i l = (
     rw (window-at (t .events) opens closes i l) at (E .ordered (suc i)),
-    rw (window-at (t .events) opens closes i l, in-horizon t) at (E .inside (suc i)),
+    rw (window-at (t .events) opens closes i l) at (E .inside (suc i)),
   )
 
   pub commit-started : {pot : List ℕ} → Pairs (t .events) (at opens) (at closes) pot (t .events) → Started t (at low) (at high) pot
@@ -127,24 +132,24 @@ module _ {t : Arrays} (G : Given t) {flags opens closes low high : List ℕ} (L 
         limits = by-nodes (λ v. (at low v ≤ 1000000) × (at high v ≤ 1000000)) n
             (λ i l.
             let e = ends-at i l in (
-              rw (L .lows .first i l) (cond-most (ltb 0 (at flags i)) (at opens i) 0 1000000 (omega (arith, G .top)) (omega arith)),
+              rw (L .lows .first i l) (cond-most (eqb (at flags i) 1) (at opens i) 0 1000000 (omega (arith, G .top)) (omega arith)),
               rw (L .highs .first i l) (omega (arith, G .top)),
             ))
             (λ i l.
             let e = ends-at i l in (
               rw (L .lows .second i l) (omega (arith, G .top)),
-              rw (L .highs .second i l) (cond-most (ltb 0 (at flags i)) (at closes i) (t .horizon) 1000000 (omega (arith, G .top)) (G .top)),
+              rw (L .highs .second i l) (cond-most (eqb (at flags i) 1) (at closes i) (t .horizon) 1000000 (omega (arith, G .top)) (G .top)),
             ));
         long = P .nodes .long;
         meeting = meeting-same G (at low) (at high) (potentialOf n old) (at pot) (pairs-potential opens closes P)
-            (grows-allowed G fs old kept E old (test-grows (ticketIn t) fs old old (itself-grows (ticketIn t) fs old E)) .meeting);
+            (grows-allowed G fs old kept E old (test-grows (content t) fs old old (itself-grows (content t) fs old E)) .meeting);
       }
 
-  pub commit-chosen : {ws : List Window} → Chosen (ticketIn t) (Allowed t (at low) (at high)) ws
-      → Chosen (ticketIn t) (Grows (ticketIn t) (flagList (t .events) flags) (windowList (t .events) opens closes)) ws
+  pub commit-chosen : {ws : List Window} → Chosen (content t) (Allowed t (at low) (at high)) ws
+      → Chosen (content t) (Grows (content t) (flagList (t .events) flags) (windowList (t .events) opens closes)) ws
   commit-chosen {ws} C = kept-chosen G (flagList (t .events) flags) (windowList (t .events) opens closes) kept E ws C
 
-  pub commit-lies : {ws : List Window} → Chosen (ticketIn t) (Allowed t (at low) (at high)) ws → All (Lies (t .horizon)) ws
+  pub commit-lies : {ws : List Window} → Chosen (content t) (Allowed t (at low) (at high)) ws → All (Lies (t .horizon)) ws
   commit-lies {ws} C = allowed-lies G (at low) (at high) ws (kept-top G (flagList (t .events) flags) (windowList (t .events) opens closes) kept E) (C .allowed)
 
 -- ---- what is asked, in arrays
@@ -153,25 +158,25 @@ module _ (n i : ℕ) (lt : i < n) where
   put-window : (opens closes : List ℕ) (o c : ℕ) → i < length opens → i < length closes
       → windowList n (set opens i o) (set closes i c) ≡ put (windowList n opens closes) (suc i) (record { opens = o; closes = c })
   unfolding windowList
-  put-window opens closes o c lo lc = tab-set n _ _ i _ lt
+  put-window opens closes o c lo lc = firsts-set n _ _ i _ lt
       (λ t. record { opens = getD-set-same opens i o 0 lo t; closes = getD-set-same closes i c 0 lc t })
       (λ j q t. record { opens = getD-set-other opens i j o 0 q t; closes = getD-set-other closes i j c 0 q t })
 
   put-flag : (flags : List ℕ) → i < length flags → flagList n (set flags i 1) ≡ put (flagList n flags) (suc i) true
   unfolding flagList
-  put-flag flags l = tab-set n _ _ i _ lt (ap (λ x. ltb 0 x) (getD-set-same flags i 1 0 l)) (λ j q. ap (λ x. ltb 0 x) (getD-set-other flags i j 1 0 q))
+  put-flag flags l = firsts-set n _ _ i _ lt (ap (λ x. eqb x 1) (getD-set-same flags i 1 0 l)) (λ j q. ap (λ x. eqb x 1) (getD-set-other flags i j 1 0 q))
 
 -- a commitment that nothing refuses
-pub record Asked (t : Arrays) (flags opens closes : List ℕ) (event o c : ℕ) : Type 0 where
-  pub valid : Valid (ticketIn t)
-  pub passes : cause (stateIn t flags opens closes 0) (asks event o c) ≡ 0
+pub record Asked (t : Ticket) (flags opens closes : List ℕ) (event o c : ℕ) : Type 0 where
+  pub valid : Valid (content t)
+  pub passes : cause (stateIn t flags opens closes 0) (asking event o c) ≡ 0
   pub flags-long : length flags ≡ 40
   pub opens-long : length opens ≡ 40
   pub closes-long : length closes ≡ 40
 
-module _ {t : Arrays} {flags opens closes : List ℕ} {event o c : ℕ} (A : Asked t flags opens closes event o c) where
-  asked : Acceptable (stateIn t flags opens closes 0) (asks event o c)
-  asked = acceptable (stateIn t flags opens closes 0) (asks event o c) (rw (A .passes) tt)
+module _ {t : Ticket} {flags opens closes : List ℕ} {event o c : ℕ} (A : Asked t flags opens closes event o c) where
+  asked : Acceptable (stateIn t flags opens closes 0) (asking event o c)
+  asked = acceptable (stateIn t flags opens closes 0) (asking event o c) (rw (A .passes) tt)
 
   pub asked-event : (0 < event) × (event ≤ t .events) × (event ≤ 40)
   asked-event = (asked .event .0, rw (in-events t) at (asked .event .1), omega (arith, asked .event .1, A .valid .events-limit))
@@ -190,22 +195,23 @@ module _ {t : Arrays} {flags opens closes : List ℕ} {event o c : ℕ} (A : Ask
       ∙ ap (λ e. put (flagList (t .events) flags) e true) same-event
 
   -- the windows with the new one are fit
-  pub asked-ends : Ends (ticketIn t) (windowList (t .events) (set opens (event - 1) o) (set closes (event - 1) c))
+  pub asked-ends : Ends (content t) (windowList (t .events) (set opens (event - 1) o) (set closes (event - 1) c))
+  unfolding windowList
   asked-ends =
       rw window-is
-      (narrowed (ticketIn t) (windowList (t .events) opens closes)
-      (fit-ends (ticketIn t) (distinct (ticketIn t) (A .valid)) (windowList (t .events) opens closes) (asked .fit))
+      (narrowed (content t) (windowList (t .events) opens closes)
+      (fit-ends (content t) (distinct (content t) (A .valid)) (windowList (t .events) opens closes) (asked .fit))
       event (record { opens = o; closes = c }) (asked .event .0) (asked .event .1) (asked .after) (asked .ordered) (asked .before))
 
   pub commit-answer : (opens' closes' : List ℕ)
-      → Chosen (ticketIn t) (Grows (ticketIn t) (flagList (t .events) (set flags (event - 1) 1)) (windowList (t .events) (set opens (event - 1) o) (set closes (event - 1) c))) (windowList (t .events) opens' closes')
-      → (count : ℕ) → commit (stateIn t flags opens closes count) (asks event o c) ≡ accepted (stateIn t (set flags (event - 1) 1) opens' closes' (suc count))
-  unfolding cause
+      → Chosen (content t) (Grows (content t) (flagList (t .events) (set flags (event - 1) 1)) (windowList (t .events) (set opens (event - 1) o) (set closes (event - 1) c))) (windowList (t .events) opens' closes')
+      → (count : ℕ) → commit (stateIn t flags opens closes count) (asking event o c) ≡ accepted (stateIn t (set flags (event - 1) 1) opens' closes' (suc count))
+  unfolding cause windowList flagList
   commit-answer opens' closes' C count =
       rw flag-is
-      (commit-is (stateIn t flags opens closes count) (asks event o c) (windowList (t .events) opens' closes') (any count) (rw (flag-is, window-is) at C))
+      (commit-is (stateIn t flags opens closes count) (asking event o c) (windowList (t .events) opens' closes') (any count) (rw (flag-is, window-is) at C))
     where
-      any : (count : ℕ) → cause (stateIn t flags opens closes count) (asks event o c) ≡ 0
+      any : (count : ℕ) → cause (stateIn t flags opens closes count) (asking event o c) ≡ 0
       any count = A .passes
 
   -- the store of the new window stays within the events

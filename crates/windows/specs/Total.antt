@@ -7,8 +7,9 @@ use native.Mathlib.Nat.{mul-le-mul-left, mul-le-mul-right}
 use Rattle.temporal.specs.Ticket.{Window, weight, weight-small, total}
 use Rattle.network.specs.Sum.{sum, sum-cong}
 use Rattle.network.specs.Stored.{at}
-use Rattle.windows.specs.declared.Arrays.{Arrays}
-use Rattle.windows.specs.Arrays.{ticketIn, windowList, length-window-list, window-at}
+use Rattle.ticket.specs.declared.Ticket.{Ticket}
+use Rattle.ticket.specs.Writing.{content}
+use Rattle.windows.specs.Arrays.{windowList, length-window-list, window-at}
 use Rattle.windows.specs.Nodes.{total-in}
 
 abbrev pub part : List ℕ → List ℕ → List ℕ → ℕ → ℕ
@@ -21,7 +22,7 @@ pub sum-next : (i : ℕ) (f : ℕ → ℕ) → sum (i + 1) f ≡ sum i f + f i
 unfolding sum
 sum-next i f = let e : i + 1 ≡ suc i = omega arith in rw e refl
 
-pub total-parts : (t : Arrays) (opens closes : List ℕ) → total (ticketIn t) (windowList (t .events) opens closes) ≡ sum (t .events) (part (t .owners) opens closes)
+pub total-parts : (t : Ticket) (opens closes : List ℕ) → total (content t) (windowList (t .events) opens closes) ≡ sum (t .events) (part (t .owners) opens closes)
 total-parts t opens closes =
     total-in t (windowList (t .events) opens closes) (length-window-list (t .events) opens closes)
     ∙ sum-cong _ _ (t .events) (λ i l. ap (λ (w : Window). weight (at (t .owners) i) * (w .closes - w .opens)) (window-at (t .events) opens closes i l))

@@ -1,19 +1,21 @@
-// Planning and commitment on arrays: a schedule by a network of points, the best windows by a network of opens and closes.
-// A ticket stands in `Arrays`; event i + 1 has the places i of its arrays. An edge is four numbers of the lent slice: tail, head, biased cost, flow.
+// Planning and commitment on a ticket's struct: a schedule by a network of points, the best windows by a network of opens and closes.
+// Event i + 1 has the places i of the arrays. An edge is four numbers of the lent slice: tail, head, biased cost, flow.
+// Rests on `ticket` for the struct and on `network` for the search.
 
 ghost use mathlib.Core.Path.{_≡_};
 ghost use mathlib.Core.Bool.{cond, true, false};
 ghost use Prim.Native.Nat.{ℕ, suc, _+_, _*_, _-_, _<_, _≤_};
-ghost use lib.Dec.{ltb};
+ghost use lib.Dec.{eqb};
 ghost use lib.ListN.{length};
 ghost use Rattle.temporal.specs.Bound.{above, below, biased};
-ghost use Rattle.temporal.specs.Ticket as ticket;
+ghost use Rattle.temporal.specs.Ticket.{weight, total, fits};
 ghost use Rattle.temporal.specs.Best.{Chosen};
 ghost use Rattle.temporal.specs.Run.{Valid};
 ghost use Rattle.network.specs.Stored.{at};
 ghost use Rattle.network.specs.Edges.{Extends, Put};
 ghost use Rattle.network.specs.Grow.{Growing, Admits};
-ghost use Rattle.windows.specs.Arrays.{ticketIn, windowList, Given, Lie, Room, Within, Planned, Committed};
+ghost use Rattle.ticket.specs.Writing.{content};
+ghost use Rattle.windows.specs.Arrays.{windowList, Given, Lie, Room, Within, Planned, Committed};
 ghost use Rattle.windows.specs.Nodes.{closeNode};
 ghost use Rattle.windows.specs.Rules.{Small, Tests, Obeyed};
 ghost use Rattle.windows.specs.Network.{Order, Ruled, Built, Limits, Allowed};
@@ -22,17 +24,6 @@ ghost use Rattle.windows.specs.Schedule.{Low, Decided};
 ghost use Rattle.windows.specs.Settle.{Started, Asked};
 
 const BIAS: u32 = 1_000_000;
-
-// A ticket: the first `events` owners and the first `rules` rules count.
-pub struct Arrays {
-    pub horizon: u32,
-    pub events: usize,
-    pub owners: [u8; 40],
-    pub rules: usize,
-    pub from: [u8; 256],
-    pub to: [u8; 256],
-    pub bound: [i32; 256],
-}
 
 fn wide(x: u8) -> usize
     ensures { λ r. ⌜ r ≡ x ⌝ }
@@ -77,7 +68,7 @@ fn holds(pot: &[u32; 81], events: usize, n: usize, from: u8, to: u8, bound: i32)
 }
 
 // Whether all rules hold.
-fn obeyed(t: Arrays, n: usize, pot: &[u32; 81]) -> bool
+fn obeyed(t: ticket::Ticket, n: usize, pot: &[u32; 81]) -> bool
     requires { ⌜ Given t ⌝ }
     requires { ⌜ (n ≤ t .events) × ((v : ℕ) → v ≤ n + t .events → at (now pot) v ≤ 1000000) ⌝ }
     ensures { λ r. ⌜ Tests r (Obeyed t n (at (now (pot .entry)))) ⌝ }
@@ -122,7 +113,7 @@ fn put_rule(net: &mut [u32], e: usize, n: usize, from: u8, to: u8, bound: i32)
 }
 
 // Store all rules.
-fn put_rules(net: &mut [u32], t: Arrays)
+fn put_rules(net: &mut [u32], t: ticket::Ticket)
     requires { ⌜ Given t ⌝ }
     requires { ⌜ 20 * t .events + 4 * t .rules ≤ length (now net) ⌝ }
     ensures { λ _. ⌜ Extends (now (net .entry)) (now (net .exit)) (5 * t .events) ⌝ }
@@ -141,7 +132,7 @@ fn put_rules(net: &mut [u32], t: Arrays)
 }
 
 // Store the window network: the boxes of all opens and closes, their order, and the rules.
-fn build(net: &mut [u32], t: Arrays, low: &[u32; 81], high: &[u32; 81])
+fn build(net: &mut [u32], t: ticket::Ticket, low: &[u32; 81], high: &[u32; 81])
     requires { ⌜ Given t ⌝ }
     requires { ⌜ 20 * t .events + 4 * t .rules ≤ length (now net) ⌝ }
     requires { ⌜ Limits t (at (now low)) (at (now high)) ⌝ }
@@ -206,7 +197,7 @@ fn read_windows(n: usize, pot: &[u32; 81], opens: &mut [u32; 40], closes: &mut [
 // From a potential within the boxes to the best windows within them.
 fn settle(
     net: &mut [u32],
-    t: Arrays,
+    t: ticket::Ticket,
     low: &[u32; 81],
     high: &[u32; 81],
     pot: &mut [u32; 81],
@@ -216,7 +207,7 @@ fn settle(
     requires { ⌜ Given t ⌝ }
     requires { ⌜ Room t (now net) (now opens) (now closes) ⌝ }
     requires { ⌜ Started t (at (now low)) (at (now high)) (now pot) ⌝ }
-    ensures { λ _. ⌜ Chosen (ticketIn t) (Allowed t (at (now (low .entry))) (at (now (high .entry)))) (windowList (t .events) (now (opens .exit)) (now (closes .exit))) ⌝ }
+    ensures { λ _. ⌜ Chosen (content t) (Allowed t (at (now (low .entry))) (at (now (high .entry)))) (windowList (t .events) (now (opens .exit)) (now (closes .exit))) ⌝ }
     ensures { λ _. ⌜ Within (t .events) (now (opens .entry)) (now (opens .exit)) × Within (t .events) (now (closes .entry)) (now (closes .exit)) ⌝ }
     ensures { λ _. ⌜ length (now (net .exit)) ≡ length (now (net .entry)) ⌝ }
 {
@@ -231,9 +222,9 @@ fn settle(
 
 // a where the flag is set, else b.
 fn pick(flag: u8, a: u32, b: u32) -> u32
-    ensures { λ r. ⌜ r ≡ cond (ltb 0 flag) a b ⌝ }
+    ensures { λ r. ⌜ r ≡ cond (eqb flag 1) a b ⌝ }
 {
-    if 0 < flag { a } else { b }
+    if flag == 1 { a } else { b }
 }
 
 // The boxes of a commitment: a window whose flag is set stays, another may grow.
@@ -283,7 +274,7 @@ fn raise(times: &mut [u32; 81], n: usize, horizon: u32, from: u8, to: u8, bound:
 }
 
 // Raise the times, round by round over the rules, until a round changes none or one cannot be kept. A schedule takes a round for each point and one more: 42 of 257 steps.
-fn relax(t: Arrays, times: &mut [u32; 81])
+fn relax(t: ticket::Ticket, times: &mut [u32; 81])
     requires { ⌜ Given t ⌝ }
     requires { ⌜ Low (t .events) (t .horizon) (now times) ⌝ }
     ensures { λ _. ⌜ Low (t .events) (t .horizon) (now (times .exit)) ⌝ }
@@ -349,7 +340,7 @@ fn admit_rule(
 }
 
 // From any times within the horizon to those of a schedule, where there is one: the rules are added one after the other.
-fn search(net: &mut [u32], t: Arrays, times: &mut [u32; 81]) -> bool
+fn search(net: &mut [u32], t: ticket::Ticket, times: &mut [u32; 81]) -> bool
     requires { ⌜ Given t ⌝ }
     requires { ⌜ 8 * t .events + 4 * t .rules ≤ length (now net) ⌝ }
     requires { ⌜ Low (t .events) (t .horizon) (now times) ⌝ }
@@ -379,7 +370,7 @@ fn search(net: &mut [u32], t: Arrays, times: &mut [u32; 81]) -> bool
 }
 
 // The times of a schedule, where there is one.
-fn schedule(net: &mut [u32], t: Arrays, times: &mut [u32; 81]) -> bool
+fn schedule(net: &mut [u32], t: ticket::Ticket, times: &mut [u32; 81]) -> bool
     requires { ⌜ Given t ⌝ }
     requires { ⌜ 8 * t .events + 4 * t .rules ≤ length (now net) ⌝ }
     requires { ⌜ Low (t .events) (t .horizon) (now times) ⌝ }
@@ -409,11 +400,11 @@ fn spread(n: usize, times: &[u32; 81], pot: &mut [u32; 81])
 // The windows of the plan; false where there is no schedule.
 pub fn plan_windows(
     net: &mut [u32],
-    t: Arrays,
+    t: ticket::Ticket,
     opens: &mut [u32; 40],
     closes: &mut [u32; 40],
 ) -> bool
-    requires { ⌜ Valid (ticketIn t) ⌝ }
+    requires { ⌜ Valid (content t) ⌝ }
     requires { ⌜ Room t (now net) (now opens) (now closes) ⌝ }
     ensures { λ r. ⌜ Planned t (now (opens .entry)) (now (closes .entry)) (now (opens .exit)) (now (closes .exit)) r ⌝ }
     ensures { λ _. ⌜ length (now (net .exit)) ≡ length (now (net .entry)) ⌝ }
@@ -433,7 +424,7 @@ pub fn plan_windows(
 // Commit an event to the window from first to last, and widen the windows of the events that are not committed.
 pub fn commit_window(
     net: &mut [u32],
-    t: Arrays,
+    t: ticket::Ticket,
     flags: &mut [u8; 40],
     opens: &mut [u32; 40],
     closes: &mut [u32; 40],
@@ -467,10 +458,10 @@ pub fn commit_window(
 }
 
 // Whether windows within the horizon are fit.
-pub fn fit(t: Arrays, opens: &[u32; 40], closes: &[u32; 40]) -> bool
-    requires { ⌜ Valid (ticketIn t) ⌝ }
+pub fn fit(t: ticket::Ticket, opens: &[u32; 40], closes: &[u32; 40]) -> bool
+    requires { ⌜ Valid (content t) ⌝ }
     requires { ⌜ Lie t (now opens) (now closes) ⌝ }
-    ensures { λ r. ⌜ ticket.fits (ticketIn t) (windowList (t .events) (now (opens .entry)) (now (closes .entry))) ≡ r ⌝ }
+    ensures { λ r. ⌜ fits (content t) (windowList (t .events) (now (opens .entry)) (now (closes .entry))) ≡ r ⌝ }
 {
     let mut pot = [0u32; 81];
     lay(t.events, opens, closes, &mut pot);
@@ -480,16 +471,16 @@ pub fn fit(t: Arrays, opens: &[u32; 40], closes: &[u32; 40]) -> bool
 // What a window counts.
 fn part(owner: u8, opens: u32, closes: u32) -> u32
     requires { ⌜ (opens ≤ closes) × (closes ≤ 1000000) ⌝ }
-    ensures { λ r. ⌜ (r ≡ ticket.weight owner * (closes - opens)) × (r ≤ 3000000) ⌝ }
+    ensures { λ r. ⌜ (r ≡ weight owner * (closes - opens)) × (r ≤ 3000000) ⌝ }
 {
     temporal::weight(owner) * (closes - opens)
 }
 
 // The weighted total width of windows within the horizon.
-pub fn total(t: Arrays, opens: &[u32; 40], closes: &[u32; 40]) -> u32
-    requires { ⌜ Valid (ticketIn t) ⌝ }
+pub fn total(t: ticket::Ticket, opens: &[u32; 40], closes: &[u32; 40]) -> u32
+    requires { ⌜ Valid (content t) ⌝ }
     requires { ⌜ Lie t (now opens) (now closes) ⌝ }
-    ensures { λ r. ⌜ r ≡ ticket.total (ticketIn t) (windowList (t .events) (now (opens .entry)) (now (closes .entry))) ⌝ }
+    ensures { λ r. ⌜ r ≡ total (content t) (windowList (t .events) (now (opens .entry)) (now (closes .entry))) ⌝ }
 {
     let n = t.events;
     let mut sum = 0;

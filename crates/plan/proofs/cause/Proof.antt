@@ -6,35 +6,31 @@ use borrow.Author.Needs.{needs}
 use Rattle.plan.proofs.cause.Statement.{statement}
 use Rattle.plan.proofs.cause.Tie as tie
 
-arrays-requires : tie.Need-arrays-requires
-arrays-requires c κs = search needs
-
 fit-requires : tie.Need-fit-requires
-fit-requires c κs = lies-asked (c .before .before .arrays .ensures) (c .before .before .before .before .before .before .before .pre)
+fit-requires c κs = lies-asked (c .before .before .before .before .before .before .pre)
 
 cast-n : tie.Need-cast-n
-cast-n c = omega (arith, kept-few (c .before .before .before .before .before .before .before .before .before .args .r) (c .before .before .before .before .before .before .before .before .before .pre))
+cast-n c = omega (arith, kept-few (c .before .before .before .before .before .before .before .before .args .r) (c .before .before .before .before .before .before .before .before .pre))
 
 flag-at-requires : tie.Need-flag-at-requires
-flag-at-requires c κs = c .before .before .before .before .before .before .before .before .before .before .pre .flags-past .long
+flag-at-requires c κs = c .before .before .before .before .before .before .before .before .before .pre .flags-past .long
 
 number-at-requires : tie.Need-number-at-requires
-number-at-requires c κs = c .before .before .before .before .before .before .before .before .before .before .before .before .pre .opens-past .long
+number-at-requires c κs = c .before .before .before .before .before .before .before .before .before .before .before .pre .opens-past .long
 
 number-at-requires-2 : tie.Need-number-at-requires-2
-number-at-requires-2 c κs = c .before .before .before .before .before .before .before .before .before .before .before .before .before .before .pre .closes-past .long
+number-at-requires-2 c κs = c .before .before .before .before .before .before .before .before .before .before .before .before .before .pre .closes-past .long
 
 first-cause-requires : tie.Need-first-cause-requires
 first-cause-requires c κs = search needs
 
 returns : tie.Need-returns
-returns c = cause-told (c .before .before .before .before .before .before .before .before .before .before .before .before .before .before .before .before .args .r) (c .before .before .before .before .before .before .before .before .before .before .before .before .before .before .before .before .pre) (c .before .before .before .before .before .before .before .before .before .before .before .before .before .before .before .before .args .event) (c .before .before .before .before .before .before .before .before .before .before .before .before .before .before .before .before .args .opens) (c .before .before .before .before .before .before .before .before .before .before .before .before .before .before .before .before .args .closes) (c .before .before .before .before .before .before .before .before .before .before .before .arrays .ensures) (c .before .before .before .before .before .before .before .before .fit .ensures) (c .before .before .before .before .before .flag-at .ensures) (c .before .before .before .number-at .ensures) (c .before .number-at2 .ensures) (c .first-cause .ensures)
+returns c = cause-told (c .before .before .before .before .before .before .before .before .before .before .before .before .before .before .before .args .r) (c .before .before .before .before .before .before .before .before .before .before .before .before .before .before .before .pre) (c .before .before .before .before .before .before .before .before .before .before .before .before .before .before .before .args .event) (c .before .before .before .before .before .before .before .before .before .before .before .before .before .before .before .args .opens) (c .before .before .before .before .before .before .before .before .before .before .before .before .before .before .before .args .closes) (c .before .before .before .before .before .before .before .before .fit .ensures) (c .before .before .before .before .before .flag-at .ensures) (c .before .before .before .number-at .ensures) (c .before .number-at2 .ensures) (c .first-cause .ensures)
 
 pub cause-spec : {M : Type 1} → statement M
 cause-spec =
     tie.close
     (tie.spec
-    arrays-requires
     fit-requires
     cast-n
     flag-at-requires

@@ -15,22 +15,19 @@ slice-relend-prefix-commit-window c = search needs
 slice-aggregate-commit-window : tie.Need-slice-aggregate-commit-window
 slice-aggregate-commit-window c = sym (length-take-le 1824 (c .before .before .before .before .before .before .args .scratch .now) (omega (arith, c .before .before .before .before .before .before .pre .1)))
 
-arrays-requires : tie.Need-arrays-requires
-arrays-requires c κs = search needs
-
 commit-window-requires : tie.Need-commit-window-requires
-commit-window-requires c κs = commit-asked (c .before .before .before .before .before .before .before .before .before .before .args .r) (c .before .before .before .before .before .before .before .before .before .before .pre .0 .0) (c .before .before .before .before .before .before .before .before .before .before .args .event) (c .before .before .before .before .before .before .before .before .before .before .args .opens) (c .before .before .before .before .before .before .before .before .before .before .args .closes) (c .before .before .before .arrays .ensures) (length-take-le 1824 (c .before .before .before .before .before .before .before .before .before .before .args .scratch .now) (omega (arith, c .before .before .before .before .before .before .before .before .before .before .pre .1))) (c .before .before .before .before .before .before .before .before .before .before .pre .0 .1)
+commit-window-requires c κs = commit-asked (c .before .before .before .before .before .before .before .before .before .args .r) (c .before .before .before .before .before .before .before .before .before .pre .0 .0) (c .before .before .before .before .before .before .before .before .before .args .event) (c .before .before .before .before .before .before .before .before .before .args .opens) (c .before .before .before .before .before .before .before .before .before .args .closes) (length-take-le 1824 (c .before .before .before .before .before .before .before .before .before .args .scratch .now) (omega (arith, c .before .before .before .before .before .before .before .before .before .pre .1))) (c .before .before .before .before .before .before .before .before .before .pre .0 .1)
 
-add-t21 : tie.Need-add-t21
-add-t21 c = omega (arith, kept-number (c .before .before .before .before .before .before .before .before .before .before .before .before .before .before .args .r) (c .before .before .before .before .before .before .before .before .before .before .before .before .before .before .pre .0 .0))
+add-t20 : tie.Need-add-t20
+add-t20 c = omega (arith, kept-number (c .before .before .before .before .before .before .before .before .before .before .before .before .before .args .r) (c .before .before .before .before .before .before .before .before .before .before .before .before .before .pre .0 .0))
 
 same-length : tie.Need-same-length
 same-length c = search needs
 
 returns : tie.Need-returns
 returns c = (
-  kept-committed (c .before .before .before .before .before .before .before .before .before .before .before .before .before .before .args .r) (c .before .before .before .before .before .before .before .before .before .before .before .before .before .before .pre .0 .0) (c .before .before .before .before .before .before .before .before .before .before .before .before .before .before .args .event) (c .before .before .before .before .before .before .before .before .before .before .before .before .before .before .args .opens) (c .before .before .before .before .before .before .before .before .before .before .before .before .before .before .args .closes) (c .before .before .before .before .before .before .before .arrays .ensures) (c .before .before .before .before .before .before .before .before .before .before .before .before .before .before .pre .0 .1) (c .before .before .before .commit-window .ensures .0),
-  past-part 8192 1824 (c .before .before .before .before .before .before .before .before .before .before .before .before .before .before .args .scratch .now) (c .before .before .before .commit-window .last .0) (omega arith) (c .before .before .before .commit-window .ensures .1 ∙ length-take-le 1824 (c .before .before .before .before .before .before .before .before .before .before .before .before .before .before .args .scratch .now) (omega (arith, c .before .before .before .before .before .before .before .before .before .before .before .before .before .before .pre .1))),
+  kept-committed (c .before .before .before .before .before .before .before .before .before .before .before .before .before .args .r) (c .before .before .before .before .before .before .before .before .before .before .before .before .before .pre .0 .0) (c .before .before .before .before .before .before .before .before .before .before .before .before .before .args .event) (c .before .before .before .before .before .before .before .before .before .before .before .before .before .args .opens) (c .before .before .before .before .before .before .before .before .before .before .before .before .before .args .closes) (c .before .before .before .before .before .before .before .before .before .before .before .before .before .pre .0 .1) (c .before .before .before .commit-window .ensures .0),
+  past-part 8192 1824 (c .before .before .before .before .before .before .before .before .before .before .before .before .before .args .scratch .now) (c .before .before .before .commit-window .last .0) (omega arith) (c .before .before .before .commit-window .ensures .1 ∙ length-take-le 1824 (c .before .before .before .before .before .before .before .before .before .before .before .before .before .args .scratch .now) (omega (arith, c .before .before .before .before .before .before .before .before .before .before .before .before .before .pre .1))),
 )
 
 pub commit-event-spec : {M : Type 1} → statement M
@@ -39,8 +36,7 @@ commit-event-spec =
     (tie.spec
     slice-relend-prefix-commit-window
     slice-aggregate-commit-window
-    arrays-requires
     commit-window-requires
-    add-t21
+    add-t20
     same-length
     returns)

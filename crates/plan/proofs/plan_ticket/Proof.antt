@@ -16,11 +16,8 @@ slice-relend-prefix-plan-windows c = search needs
 slice-aggregate-plan-windows : tie.Need-slice-aggregate-plan-windows
 slice-aggregate-plan-windows c = sym (length-take-le 1824 (c .before .before .before .args .scratch .now) (omega (arith, c .before .before .before .pre .1)))
 
-arrays-requires : tie.Need-arrays-requires
-arrays-requires c κs = search needs
-
 plan-windows-requires : tie.Need-plan-windows-requires
-plan-windows-requires c κs = plan-asked (c .before .before .arrays .ensures) (c .before .before .before .before .before .before .pre .0 .1) (length-take-le 1824 (c .before .before .before .before .before .before .args .scratch .now) (omega (arith, c .before .before .before .before .before .before .pre .1))) refl refl
+plan-windows-requires c κs = plan-asked (c .before .before .before .before .before .pre .0 .1) (length-take-le 1824 (c .before .before .before .before .before .args .scratch .now) (omega (arith, c .before .before .before .before .before .pre .1))) refl refl
 
 refusal-requires : tie.Need-refusal-requires
 refusal-requires c κs = search needs
@@ -30,11 +27,11 @@ same-length c = search needs
 
 returns : tie.Need-returns
 returns c =
-    meets-refused (c .before .before .before .before .before .before .before .before .before .before .before .args .out .now) (planned-none (c .before .before .before .before .before .before .before .arrays .ensures) (c .before .before .before .before .plan-windows .ensures .0) (not-true _ (c .before .if1 .taken))) (c .refusal .ensures)
-    (past-part 8192 1824 (c .before .before .before .before .before .before .before .before .before .before .before .args .scratch .now) (c .before .before .before .before .plan-windows .last .0) (omega arith) (c .before .before .before .before .plan-windows .ensures .1 ∙ length-take-le 1824 (c .before .before .before .before .before .before .before .before .before .before .before .args .scratch .now) (omega (arith, c .before .before .before .before .before .before .before .before .before .before .before .pre .1))))
+    meets-refused (c .before .before .before .before .before .before .before .before .before .before .args .out .now) (planned-none (c .before .before .before .before .plan-windows .ensures .0) (not-true _ (c .before .if1 .taken))) (c .refusal .ensures)
+    (past-part 8192 1824 (c .before .before .before .before .before .before .before .before .before .before .args .scratch .now) (c .before .before .before .before .plan-windows .last .0) (omega arith) (c .before .before .before .before .plan-windows .ensures .1 ∙ length-take-le 1824 (c .before .before .before .before .before .before .before .before .before .before .args .scratch .now) (omega (arith, c .before .before .before .before .before .before .before .before .before .before .pre .1))))
 
 write-out-requires : tie.Need-write-out-requires
-write-out-requires c κs = (kept-planned (c .before .before .before .before .before .before .before .arrays .ensures) (c .before .before .before .before .plan-windows .ensures .0) (c .before .before .before .before .before .before .before .before .before .before .before .pre .0 .0) (c .before .before .before .before .before .before .before .before .before .before .before .pre .0 .1) refl refl (not-false _ (c .before .if1 .left)), c .before .before .before .before .before .before .before .before .before .before .before .pre .1 .0)
+write-out-requires c κs = (kept-planned (c .before .before .before .before .plan-windows .ensures .0) (c .before .before .before .before .before .before .before .before .before .before .pre .0 .0) (c .before .before .before .before .before .before .before .before .before .before .pre .0 .1) refl refl (not-false _ (c .before .if1 .left)), c .before .before .before .before .before .before .before .before .before .before .pre .1 .0)
 
 same-length-2 : tie.Need-same-length-2
 same-length-2 c = search needs
@@ -44,8 +41,8 @@ same-length-3 c = search needs
 
 returns-2 : tie.Need-returns-2
 returns-2 c =
-    meets-accepted (c .before .before .before .before .before .before .before .before .before .before .before .before .before .before .args .out .now) (planned-some (c .before .before .before .before .before .before .before .before .before .before .arrays .ensures) (c .before .before .before .before .before .before .before .plan-windows .ensures .0) (not-false _ (c .before .before .before .before .if1 .left))) (c .before .before .write-out .ensures .0) (c .before .before .write-out .ensures .1)
-    (past-part 8192 1824 (c .before .before .before .before .before .before .before .before .before .before .before .before .before .before .args .scratch .now) (c .before .before .before .before .before .before .before .plan-windows .last .0) (omega arith) (c .before .before .before .before .before .before .before .plan-windows .ensures .1 ∙ length-take-le 1824 (c .before .before .before .before .before .before .before .before .before .before .before .before .before .before .args .scratch .now) (omega (arith, c .before .before .before .before .before .before .before .before .before .before .before .before .before .before .pre .1))))
+    meets-accepted (c .before .before .before .before .before .before .before .before .before .before .before .before .before .args .out .now) (planned-some (c .before .before .before .before .before .before .before .plan-windows .ensures .0) (not-false _ (c .before .before .before .before .if1 .left))) (c .before .before .write-out .ensures .0) (c .before .before .write-out .ensures .1)
+    (past-part 8192 1824 (c .before .before .before .before .before .before .before .before .before .before .before .before .before .args .scratch .now) (c .before .before .before .before .before .before .before .plan-windows .last .0) (omega arith) (c .before .before .before .before .before .before .before .plan-windows .ensures .1 ∙ length-take-le 1824 (c .before .before .before .before .before .before .before .before .before .before .before .before .before .args .scratch .now) (omega (arith, c .before .before .before .before .before .before .before .before .before .before .before .before .before .pre .1))))
 
 pub plan-ticket-spec : {M : Type 1} → statement M
 plan-ticket-spec =
@@ -53,7 +50,6 @@ plan-ticket-spec =
     (tie.spec
     slice-relend-prefix-plan-windows
     slice-aggregate-plan-windows
-    arrays-requires
     plan-windows-requires
     refusal-requires
     same-length

@@ -4,11 +4,8 @@ use borrow.Author.Needs.{needs}
 use Rattle.plan.proofs.write_out.Statement.{statement}
 use Rattle.plan.proofs.write_out.Tie as tie
 
-arrays-requires : tie.Need-arrays-requires
-arrays-requires c κs = search needs
-
 total-requires : tie.Need-total-requires
-total-requires c κs = lies-asked (c .before .before .arrays .ensures) (c .before .before .before .before .before .before .before .pre .0)
+total-requires c κs = lies-asked (c .before .before .before .before .before .before .pre .0)
 
 write-record-requires : tie.Need-write-record-requires
 write-record-requires c κs = search needs
@@ -17,8 +14,8 @@ same-length : tie.Need-same-length
 same-length c = search needs
 
 returns : tie.Need-returns
-returns c = written-out (c .before .before .before .before .before .before .before .before .before .before .before .before .args .out .now) (c .before .before .before .before .before .before .before .before .before .before .before .before .pre .0) (c .before .before .before .before .before .before .before .before .before .before .before .before .pre .1) (c .before .before .before .before .before .before .before .arrays .ensures) (c .before .before .before .before .total .ensures) (c .before .before .write-record .ensures .0) (c .before .before .write-record .ensures .1)
+returns c = written-out (c .before .before .before .before .before .before .before .before .before .before .before .args .out .now) (c .before .before .before .before .before .before .before .before .before .before .before .pre .0) (c .before .before .before .before .before .before .before .before .before .before .before .pre .1) (c .before .before .before .before .total .ensures) (c .before .before .write-record .ensures .0) (c .before .before .write-record .ensures .1)
 
 pub write-out-spec : {M : Type 1} → statement M
 write-out-spec =
-    tie.close (tie.spec arrays-requires total-requires write-record-requires same-length returns)
+    tie.close (tie.spec total-requires write-record-requires same-length returns)
