@@ -53,6 +53,12 @@ pub record Built (net : List ℕ) (t : Ticket) (low high : ℕ → ℕ) : Type 0
   pub order : Order net (t .events) (t .events)
   pub ruled : Ruled net t (t .events) (5 * t .events) (t .rules)
 
+-- a potential of the events' weights, widest and of these least
+pub record Widened (net : List ℕ) (m n : ℕ) (owners pot : List ℕ) : Type 0 where
+  pub weights : ℕ → ℕ
+  pub owned : (i : ℕ) → i < n → weights (suc i) ≡ weight (at owners i)
+  pub best : LeastWidest (stored n m net) weights (at pot)
+
 -- the parts, stored one after the other
 pub built-by : {one two net : List ℕ} {t : Ticket} {low high : ℕ → ℕ} → 4 * edges t ≤ length net
     → Boxes one (2 * t .events + 1) low high → Extends one two (4 * t .events) → Order two (t .events) (t .events)

@@ -52,13 +52,17 @@ low-set {n} {h} {xs} {i} {x} p li l L = record {
 -- whether there is a schedule; its times, if there is one
 pub record Decided (t : Ticket) (times : List ℕ) (r : Bool) : Type 0 where
   pub found : r ≡ true → Timed t (at times)
+  pub long : r ≡ true → length times ≡ 81
   pub none : r ≡ false → (p : ℕ → ℕ) → Timed t p → ⊥
 
-pub decided-yes : {t : Ticket} {times : List ℕ} → Timed t (at times) → Decided t times true
-decided-yes T = record { found = λ _. T; none = λ e. differ e }
+pub decided-yes : {t : Ticket} {times : List ℕ} → length times ≡ 81 → Timed t (at times) → Decided t times true
+decided-yes l T = record { found = λ _. T; long = λ _. l; none = λ e. differ e }
 
 pub decided-no : {t : Ticket} {times : List ℕ} → ((p : ℕ → ℕ) → Timed t p → ⊥) → Decided t times false
-decided-no h = record { found = λ e. differ (sym e); none = λ _. h }
+decided-no h = record { found = λ e. differ (sym e); long = λ e. differ (sym e); none = λ _. h }
+
+pub decided-found : {t : Ticket} {times : List ℕ} {r : Bool} → Decided t times r → r ≡ true → Decided t times true
+decided-found {t} {times} D e = subst (Decided t times) e D
 
 -- the first j rules are in the network of the points
 pub record Tried (net : List ℕ) (size : ℕ) (t : Ticket) (pot tails heads : List ℕ) (j : ℕ) : Type 0 where

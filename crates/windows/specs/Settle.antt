@@ -7,7 +7,7 @@ use native.Mathlib.Omega.{arith}
 use lib.Dec.{T, eqb}
 use lib.ListN.{length, getD, set, length-set, replicate, length-replicate, getD-replicate}
 use lib.Seq.{ext-getD, getD-set-same, getD-set-other}
-use Rattle.temporal.specs.Lists.{All}
+use Rattle.temporal.specs.Lists.{below-All}
 use Rattle.temporal.specs.Ticket as temporal
 use Rattle.temporal.specs.Ticket.{events, Window, origin}
 use Rattle.temporal.specs.Ends.{Ends, Lies, schedule-test, fit-ends}
@@ -149,8 +149,9 @@ module _ {t : Ticket} (G : Given t) {flags opens closes low high : List ℕ} (L 
       → Chosen (content t) (Grows (content t) (flagList (t .events) flags) (windowList (t .events) opens closes)) ws
   commit-chosen {ws} C = kept-chosen G (flagList (t .events) flags) (windowList (t .events) opens closes) kept E ws C
 
-  pub commit-lies : {ws : List Window} → Chosen (content t) (Allowed t (at low) (at high)) ws → All (Lies (t .horizon)) ws
-  commit-lies {ws} C = allowed-lies G (at low) (at high) ws (kept-top G (flagList (t .events) flags) (windowList (t .events) opens closes) kept E) (C .allowed)
+-- windows that fit lie within the horizon
+pub ends-lie : (t : Ticket) (opens closes : List ℕ) → Ends (content t) (windowList (t .events) opens closes) → Lie t opens closes
+ends-lie t opens closes E = below-All (Lies (t .horizon)) origin (windowList (t .events) opens closes) (λ i l. (E .ordered (suc i), E .inside (suc i)))
 
 -- ---- what is asked, in arrays
 

@@ -6,21 +6,24 @@ ghost use mathlib.Core.Path.{_≡_};
 ghost use mathlib.Core.Bool.{cond, true, false};
 ghost use Prim.Native.Nat.{ℕ, suc, _+_, _*_, _-_, _<_, _≤_};
 ghost use lib.Dec.{eqb};
-ghost use lib.ListN.{length};
+ghost use lib.ListN.{length, set, replicate};
 ghost use Rattle.temporal.specs.Bound.{above, below, biased};
 ghost use Rattle.temporal.specs.Ticket.{weight, total, fits};
+ghost use Rattle.temporal.specs.Ends.{Ends};
 ghost use Rattle.temporal.specs.Best.{Chosen};
+ghost use Rattle.temporal.specs.FitSets.{Grows};
 ghost use Rattle.temporal.specs.Run.{Valid};
 ghost use Rattle.network.specs.Stored.{at};
 ghost use Rattle.network.specs.Edges.{Extends, Put};
-ghost use Rattle.network.specs.Grow.{Growing, Admits};
+ghost use Rattle.network.specs.Grow.{Growing, Admits, Flowless};
+ghost use Rattle.network.specs.Solve.{Spans};
 ghost use Rattle.ticket.specs.Writing.{content};
-ghost use Rattle.windows.specs.Arrays.{windowList, Given, Lie, Room, Within, Planned, Committed};
+ghost use Rattle.windows.specs.Arrays.{windowList, flagList, Given, Lie, Room, Within, Planned, Committed};
 ghost use Rattle.windows.specs.Nodes.{closeNode};
 ghost use Rattle.windows.specs.Rules.{Small, Tests, Obeyed};
-ghost use Rattle.windows.specs.Network.{Order, Ruled, Built, Limits, Allowed};
-ghost use Rattle.windows.specs.Pairs.{Nodes, PutPair, Pairs, Limited, Weighs, Read};
-ghost use Rattle.windows.specs.Schedule.{Low, Decided};
+ghost use Rattle.windows.specs.Network.{Order, Ruled, Built, Limits, Allowed, Widened};
+ghost use Rattle.windows.specs.Pairs.{Nodes, Pairs, loosened, Weighs, Read};
+ghost use Rattle.windows.specs.Schedule.{Low, Tried, Decided};
 ghost use Rattle.windows.specs.Settle.{Started, Asked};
 
 const BIAS: u32 = 1_000_000;
@@ -121,12 +124,13 @@ fn put_rules(net: &mut [u32], t: ticket::Ticket)
 {
     let n = t.events;
     let m = t.rules;
+    let base = 5 * n;
     let mut j = 0;
     while j < m {
         let from = t.from[j];
         let to = t.to[j];
         let bound = t.bound[j];
-        put_rule(net, 5 * n + j, n, from, to, bound);
+        put_rule(net, base + j, n, from, to, bound);
         j += 1;
     }
 }
@@ -145,15 +149,6 @@ fn build(net: &mut [u32], t: ticket::Ticket, low: &[u32; 81], high: &[u32; 81])
     put_rules(net, t);
 }
 
-// Store a at the open of event i + 1 and b at its close.
-fn put_pair(xs: &mut [u32; 81], n: usize, i: usize, a: u32, b: u32)
-    requires { ⌜ (n ≤ 40) × (i < n) × (length (now xs) ≡ 81) ⌝ }
-    ensures { λ _. ⌜ PutPair (now (xs .entry)) (now (xs .exit)) n i a b ⌝ }
-{
-    xs[i + 1] = a;
-    xs[n + i + 1] = b;
-}
-
 // The potential of windows.
 fn lay(n: usize, opens: &[u32; 40], closes: &[u32; 40], pot: &mut [u32; 81])
     requires { ⌜ n ≤ 40 ⌝ }
@@ -162,7 +157,8 @@ fn lay(n: usize, opens: &[u32; 40], closes: &[u32; 40], pot: &mut [u32; 81])
 {
     let mut i = 0;
     while i < n {
-        put_pair(pot, n, i, opens[i], closes[i]);
+        pot[i + 1] = opens[i];
+        pot[n + i + 1] = closes[i];
         i += 1;
     }
 }
@@ -194,6 +190,19 @@ fn read_windows(n: usize, pot: &[u32; 81], opens: &mut [u32; 40], closes: &mut [
     }
 }
 
+// From a potential that keeps the network to the widest one that is least, each event with the weight of its owner.
+fn widest(net: &mut [u32], n: usize, m: usize, owners: &[u8; 40], pot: &mut [u32; 81])
+    requires { ⌜ n ≤ 40 ⌝ }
+    requires { ⌜ Flowless (now net) m (2 * n + 1) (now pot) ⌝ }
+    requires { ⌜ Spans (now net) m n ⌝ }
+    ensures { λ _. ⌜ Widened (now (net .entry)) m n (now (owners .entry)) (now (pot .exit)) ⌝ }
+    ensures { λ _. ⌜ length (now (net .exit)) ≡ length (now (net .entry)) ⌝ }
+{
+    let mut weight = [0u32; 81];
+    weigh(n, owners, &mut weight);
+    network::solve(net, m, n, pot, &weight);
+}
+
 // From a potential within the boxes to the best windows within them.
 fn settle(
     net: &mut [u32],
@@ -212,39 +221,34 @@ fn settle(
     ensures { λ _. ⌜ length (now (net .exit)) ≡ length (now (net .entry)) ⌝ }
 {
     let n = t.events;
-    let m = t.rules;
-    let mut weight = [0u32; 81];
-    weigh(n, &t.owners, &mut weight);
     build(net, t, low, high);
-    network::solve(net, 5 * n + m, n, pot, &weight);
+    widest(net, n, 5 * n + t.rules, &t.owners, pot);
     read_windows(n, pot, opens, closes);
 }
 
-// a where the flag is set, else b.
-fn pick(flag: u8, a: u32, b: u32) -> u32
-    ensures { λ r. ⌜ r ≡ cond (eqb flag 1) a b ⌝ }
+// Let the window of event i + 1 grow, unless it is committed.
+fn free(low: &mut [u32; 81], high: &mut [u32; 81], flag: u8, horizon: u32, n: usize, i: usize)
+    requires { ⌜ (n ≤ 40) × (i < n) × (length (now low) ≡ 81) × (length (now high) ≡ 81) ⌝ }
+    ensures { λ _. ⌜ now (low .exit) ≡ cond (eqb flag 1) (now (low .entry)) (set (now (low .entry)) (i + 1) 0) ⌝ }
+    ensures { λ _. ⌜ now (high .exit) ≡ cond (eqb flag 1) (now (high .entry)) (set (now (high .entry)) (n + i + 1) horizon) ⌝ }
 {
-    if flag == 1 { a } else { b }
+    if flag == 1 {
+        return;
+    }
+    low[i + 1] = 0;
+    high[n + i + 1] = horizon;
 }
 
-// The boxes of a commitment: a window whose flag is set stays, another may grow.
-fn limits(
-    horizon: u32,
-    n: usize,
-    flags: &[u8; 40],
-    opens: &[u32; 40],
-    closes: &[u32; 40],
-    low: &mut [u32; 81],
-    high: &mut [u32; 81],
-)
+// The boxes of a commitment, from the potential of its windows: a window whose flag is set stays, another may grow.
+fn limits(horizon: u32, n: usize, flags: &[u8; 40], low: &mut [u32; 81], high: &mut [u32; 81])
     requires { ⌜ n ≤ 40 ⌝ }
-    requires { ⌜ Nodes (now low) × Nodes (now high) ⌝ }
-    ensures { λ _. ⌜ Limited horizon n (now (flags .entry)) (now (opens .entry)) (now (closes .entry)) (now (low .exit)) (now (high .exit)) ⌝ }
+    requires { ⌜ (length (now low) ≡ 81) × (length (now high) ≡ 81) ⌝ }
+    ensures { λ _. ⌜ now (low .exit) ≡ loosened 0 0 (now (flags .entry)) n (now (low .entry)) ⌝ }
+    ensures { λ _. ⌜ now (high .exit) ≡ loosened n horizon (now (flags .entry)) n (now (high .entry)) ⌝ }
 {
     let mut i = 0;
     while i < n {
-        put_pair(low, n, i, pick(flags[i], opens[i], 0), closes[i]);
-        put_pair(high, n, i, opens[i], pick(flags[i], closes[i], horizon));
+        free(low, high, flags[i], horizon, n, i);
         i += 1;
     }
 }
@@ -257,24 +261,28 @@ fn raise(times: &mut [u32; 81], n: usize, horizon: u32, from: u8, to: u8, bound:
     ensures { λ _. ⌜ Low n horizon (now (times .exit)) ⌝ }
 {
     let a = wide(from);
-    let b = wide(to);
     let c = cost(bound);
-    if times[b] + BIAS <= times[a] + c {
+    let x = times[wide(to)] + BIAS;
+    if x <= times[a] + c {
         return 0;
     }
-    let x = times[b] + BIAS - c;
     if a == 0 {
         return 2;
     }
-    if horizon < x {
+    if horizon < x - c {
         return 2;
     }
-    times[a] = x;
+    times[a] = x - c;
     1
 }
 
-// Raise the times, round by round over the rules, until a round changes none or one cannot be kept. A schedule takes a round for each point and one more: 42 of 257 steps.
-fn relax(t: ticket::Ticket, times: &mut [u32; 81])
+// The larger of two answers.
+fn larger(a: u32, b: u32) -> u32 {
+    if a < b { b } else { a }
+}
+
+// Raise the times, rule by rule. The largest answer of `raise`.
+fn round(t: ticket::Ticket, times: &mut [u32; 81]) -> u32
     requires { ⌜ Given t ⌝ }
     requires { ⌜ Low (t .events) (t .horizon) (now times) ⌝ }
     ensures { λ _. ⌜ Low (t .events) (t .horizon) (now (times .exit)) ⌝ }
@@ -282,30 +290,33 @@ fn relax(t: ticket::Ticket, times: &mut [u32; 81])
     let n = t.events;
     let m = t.rules;
     let h = t.horizon;
-    let mut more = false;
+    let mut most = 0;
     let mut j = 0;
-    let mut steps = 10_794u32;
-    while 0 < steps {
-        steps -= 1;
-        if j < m {
-            let from = t.from[j];
-            let to = t.to[j];
-            let bound = t.bound[j];
-            let r = raise(times, n, h, from, to, bound);
-            if r == 2 {
-                return;
-            }
-            if r == 1 {
-                more = true;
-            }
-            j += 1;
-        } else {
-            if !more {
-                return;
-            }
-            more = false;
-            j = 0;
+    while j < m {
+        let from = t.from[j];
+        let to = t.to[j];
+        let bound = t.bound[j];
+        most = larger(most, raise(times, n, h, from, to, bound));
+        if most == 2 {
+            return 2;
         }
+        j += 1;
+    }
+    most
+}
+
+// Raise the times until a round changes none or a rule cannot be kept. A schedule takes a round for each point and one more.
+fn relax(t: ticket::Ticket, times: &mut [u32; 81])
+    requires { ⌜ Given t ⌝ }
+    requires { ⌜ Low (t .events) (t .horizon) (now times) ⌝ }
+    ensures { λ _. ⌜ Low (t .events) (t .horizon) (now (times .exit)) ⌝ }
+{
+    let mut rounds = 42u32;
+    while 0 < rounds {
+        if round(t, times) != 1 {
+            return;
+        }
+        rounds -= 1;
     }
 }
 
@@ -339,6 +350,36 @@ fn admit_rule(
     )
 }
 
+// Add the rules to the network of the points, one after the other, until one cannot be kept.
+fn admit_rules(
+    net: &mut [u32],
+    t: ticket::Ticket,
+    tails: &mut [u32; 400],
+    heads: &mut [u32; 400],
+    times: &mut [u32; 81],
+) -> bool
+    requires { ⌜ Given t ⌝ }
+    requires { ⌜ 8 * t .events + 4 * t .rules ≤ length (now net) ⌝ }
+    requires { ⌜ Tried (now net) (length (now net)) t (now times) (now tails) (now heads) 0 ⌝ }
+    ensures { λ r. ⌜ Decided t (now (times .exit)) r ⌝ }
+    ensures { λ _. ⌜ length (now (net .exit)) ≡ length (now (net .entry)) ⌝ }
+{
+    let n = t.events;
+    let m = t.rules;
+    let mut j = 0;
+    while j < m {
+        let from = t.from[j];
+        let to = t.to[j];
+        let bound = t.bound[j];
+        if admit_rule(net, n, j, tails, heads, times, from, to, bound) {
+            j += 1;
+        } else {
+            return false;
+        }
+    }
+    true
+}
+
 // From any times within the horizon to those of a schedule, where there is one: the rules are added one after the other.
 fn search(net: &mut [u32], t: ticket::Ticket, times: &mut [u32; 81]) -> bool
     requires { ⌜ Given t ⌝ }
@@ -347,26 +388,12 @@ fn search(net: &mut [u32], t: ticket::Ticket, times: &mut [u32; 81]) -> bool
     ensures { λ r. ⌜ Decided t (now (times .exit)) r ⌝ }
     ensures { λ _. ⌜ length (now (net .exit)) ≡ length (now (net .entry)) ⌝ }
 {
-    let n = t.events;
-    let m = t.rules;
     let low = [0u32; 81];
     let high = [t.horizon; 81];
+    network::boxes(net, t.events, &low, &high);
     let mut tails = [0u32; 400];
     let mut heads = [0u32; 400];
-    network::boxes(net, n, &low, &high);
-    let mut j = 0;
-    while j < m {
-        let from = t.from[j];
-        let to = t.to[j];
-        let bound = t.bound[j];
-        let met = admit_rule(net, n, j, &mut tails, &mut heads, times, from, to, bound);
-        if met {
-            j += 1;
-        } else {
-            return false;
-        }
-    }
-    true
+    admit_rules(net, t, &mut tails, &mut heads, times)
 }
 
 // The times of a schedule, where there is one.
@@ -384,17 +411,38 @@ fn schedule(net: &mut [u32], t: ticket::Ticket, times: &mut [u32; 81]) -> bool
     search(net, t, times)
 }
 
-// The potential of windows that open and close at the times.
-fn spread(n: usize, times: &[u32; 81], pot: &mut [u32; 81])
+// From the times of the points to the potential of windows that open and close at them.
+fn spread(n: usize, pot: &mut [u32; 81])
     requires { ⌜ n ≤ 40 ⌝ }
     requires { ⌜ Nodes (now pot) ⌝ }
-    ensures { λ _. ⌜ Pairs n (λ (i : ℕ). at (now (times .entry)) (suc i)) (λ (i : ℕ). at (now (times .entry)) (suc i)) (now (pot .exit)) n ⌝ }
+    ensures { λ _. ⌜ Pairs n (λ (i : ℕ). at (now (pot .entry)) (suc i)) (λ (i : ℕ). at (now (pot .entry)) (suc i)) (now (pot .exit)) n ⌝ }
 {
     let mut i = 0;
     while i < n {
-        put_pair(pot, n, i, times[i + 1], times[i + 1]);
+        pot[n + i + 1] = pot[i + 1];
         i += 1;
     }
+}
+
+// From the times of a schedule to the windows of the plan.
+fn place(
+    net: &mut [u32],
+    t: ticket::Ticket,
+    pot: &mut [u32; 81],
+    opens: &mut [u32; 40],
+    closes: &mut [u32; 40],
+)
+    requires { ⌜ Given t ⌝ }
+    requires { ⌜ Room t (now net) (now opens) (now closes) ⌝ }
+    requires { ⌜ Decided t (now pot) true ⌝ }
+    ensures { λ _. ⌜ Chosen (content t) (Allowed t (at (replicate 81 0)) (at (replicate 81 (t .horizon)))) (windowList (t .events) (now (opens .exit)) (now (closes .exit))) ⌝ }
+    ensures { λ _. ⌜ Within (t .events) (now (opens .entry)) (now (opens .exit)) × Within (t .events) (now (closes .entry)) (now (closes .exit)) ⌝ }
+    ensures { λ _. ⌜ length (now (net .exit)) ≡ length (now (net .entry)) ⌝ }
+{
+    let low = [0u32; 81];
+    let high = [t.horizon; 81];
+    spread(t.events, pot);
+    settle(net, t, &low, &high, pot, opens, closes);
 }
 
 // The windows of the plan; false where there is no schedule.
@@ -409,16 +457,35 @@ pub fn plan_windows(
     ensures { λ r. ⌜ Planned t (now (opens .entry)) (now (closes .entry)) (now (opens .exit)) (now (closes .exit)) r ⌝ }
     ensures { λ _. ⌜ length (now (net .exit)) ≡ length (now (net .entry)) ⌝ }
 {
-    let mut times = [0u32; 81];
-    if schedule(net, t, &mut times) {
-        let low = [0u32; 81];
-        let high = [t.horizon; 81];
-        let mut pot = [0u32; 81];
-        spread(t.events, &times, &mut pot);
-        settle(net, t, &low, &high, &mut pot, opens, closes);
+    let mut pot = [0u32; 81];
+    if schedule(net, t, &mut pot) {
+        place(net, t, &mut pot, opens, closes);
         return true;
     }
     false
+}
+
+// From fit windows to the best of those that keep the committed ones and contain the others.
+fn widen(
+    net: &mut [u32],
+    t: ticket::Ticket,
+    flags: &[u8; 40],
+    opens: &mut [u32; 40],
+    closes: &mut [u32; 40],
+)
+    requires { ⌜ Given t ⌝ }
+    requires { ⌜ Room t (now net) (now opens) (now closes) ⌝ }
+    requires { ⌜ Ends (content t) (windowList (t .events) (now opens) (now closes)) ⌝ }
+    ensures { λ _. ⌜ Chosen (content t) (Grows (content t) (flagList (t .events) (now (flags .entry))) (windowList (t .events) (now (opens .entry)) (now (closes .entry)))) (windowList (t .events) (now (opens .exit)) (now (closes .exit))) ⌝ }
+    ensures { λ _. ⌜ Within (t .events) (now (opens .entry)) (now (opens .exit)) × Within (t .events) (now (closes .entry)) (now (closes .exit)) ⌝ }
+    ensures { λ _. ⌜ length (now (net .exit)) ≡ length (now (net .entry)) ⌝ }
+{
+    let mut pot = [0u32; 81];
+    lay(t.events, opens, closes, &mut pot);
+    let mut low = pot;
+    let mut high = pot;
+    limits(t.horizon, t.events, flags, &mut low, &mut high);
+    settle(net, t, &low, &high, &mut pot, opens, closes);
 }
 
 // Commit an event to the window from first to last, and widen the windows of the events that are not committed.
@@ -441,20 +508,7 @@ pub fn commit_window(
     flags[i] = 1;
     opens[i] = first;
     closes[i] = last;
-    let mut low = [0u32; 81];
-    let mut high = [0u32; 81];
-    let mut pot = [0u32; 81];
-    limits(
-        t.horizon,
-        t.events,
-        flags,
-        opens,
-        closes,
-        &mut low,
-        &mut high,
-    );
-    lay(t.events, opens, closes, &mut pot);
-    settle(net, t, &low, &high, &mut pot, opens, closes);
+    widen(net, t, flags, opens, closes);
 }
 
 // Whether windows within the horizon are fit.

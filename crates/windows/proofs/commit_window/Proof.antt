@@ -1,9 +1,9 @@
--- `commit_window` meets its contract, by those of its parts.
+-- `commit_window` meets its contract: three stores, and that of `widen`.
 use native.Mathlib.Omega.{arith}
 use mathlib.Core.Path.{refl}
 use lib.ListN.{length-set}
 use Rattle.windows.specs.Arrays.{valid-given}
-use Rattle.windows.specs.Settle.{asked-event, asked-ends, commit-started, commit-chosen, commit-lies, commit-answer, asked-within}
+use Rattle.windows.specs.Settle.{asked-event, asked-ends, ends-lie, commit-answer, asked-within}
 use Rattle.windows.proofs.commit_window.Statement.{statement}
 use Rattle.windows.proofs.commit_window.Tie as tie
 
@@ -25,39 +25,27 @@ mul-closes c = omega (arith, asked-event (c .before .pre .1))
 element-write-closes : tie.Need-element-write-closes
 element-write-closes c = omega (arith, asked-event (c .before .pre .1), c .before .pre .1 .closes-long)
 
-limits-requires : tie.Need-limits-requires
-limits-requires c κs = (valid-given (c .before .before .before .before .before .before .args .t) (c .before .before .before .before .before .before .pre .1 .valid) .few, (record { long = refl; origin = refl }, record { long = refl; origin = refl }))
-
-lay-requires : tie.Need-lay-requires
-lay-requires c κs = (valid-given (c .before .before .before .before .before .before .before .before .before .before .args .t) (c .before .before .before .before .before .before .before .before .before .before .pre .1 .valid) .few, record { long = refl; origin = refl })
-
-settle-requires : tie.Need-settle-requires
-settle-requires c κs =
-    let A = c .before .before .before .before .before .before .before .before .before .before .before .before .before .before .before .before .before .pre .1 in
-    let G = valid-given (c .before .before .before .before .before .before .before .before .before .before .before .before .before .before .before .before .before .args .t) (A .valid) in (
-      G,
-      (
-        record { size = c .before .before .before .before .before .before .before .before .before .before .before .before .before .before .before .before .before .pre .0 .size; opens-long = simp length-set (A .opens-long); closes-long = simp length-set (A .closes-long) },
-        commit-started G (c .before .before .before .before .before .before .before .before .before .before .limits .ensures) (asked-ends A) (c .before .before .before .before .before .before .lay .ensures),
-      ),
-    )
+widen-requires : tie.Need-widen-requires
+widen-requires c κs =
+    let A = c .before .before .before .before .before .pre .1 in
+    (valid-given (c .before .before .before .before .before .args .t) (A .valid), (record { size = c .before .before .before .before .before .pre .0 .size; opens-long = simp length-set (A .opens-long); closes-long = simp length-set (A .closes-long) }, asked-ends A))
 
 same-length : tie.Need-same-length
-same-length c = c .before .before .settle .ensures .1 .1
+same-length c = c .before .before .widen .ensures .1 .1
 
 returns : tie.Need-returns
 returns c =
-    let A = c .before .before .before .before .before .before .before .before .before .before .before .before .before .before .before .before .before .before .before .before .pre .1 in
-    let G = valid-given (c .before .before .before .before .before .before .before .before .before .before .before .before .before .before .before .before .before .before .before .before .args .t) (A .valid) in
-    let s = c .before .before .settle .ensures in (
+    let s = c .before .before .before .before .before .before .before .before in
+    let A = s .pre .1 in
+    let w = c .before .before .widen .ensures in (
       record {
-        answer = commit-answer A _ _ (commit-chosen G (c .before .before .before .before .before .before .before .before .before .before .before .before .before .limits .ensures) (asked-ends A) (s .0));
-        lie = commit-lies G (c .before .before .before .before .before .before .before .before .before .before .before .before .before .limits .ensures) (asked-ends A) (s .0);
+        answer = commit-answer A _ _ (w .0);
+        lie = ends-lie (s .args .t) _ _ (w .0 .allowed .ends);
         flags-are = refl;
-        opens-past = asked-within A (c .before .before .before .before .before .before .before .before .before .before .before .before .before .before .before .before .before .before .before .before .args .opens .now) (c .before .before .before .before .before .before .before .before .before .before .before .before .before .before .before .before .before .before .before .before .args .first) (s .1 .0 .0);
-        closes-past = asked-within A (c .before .before .before .before .before .before .before .before .before .before .before .before .before .before .before .before .before .before .before .before .args .closes .now) (c .before .before .before .before .before .before .before .before .before .before .before .before .before .before .before .before .before .before .before .before .args .last) (s .1 .0 .1);
+        opens-past = asked-within A (s .args .opens .now) (s .args .first) (w .1 .0 .0);
+        closes-past = asked-within A (s .args .closes .now) (s .args .last) (w .1 .0 .1);
       },
-      s .1 .1,
+      w .1 .1,
     )
 
 pub commit-window-spec : {M : Type 1} → statement M
@@ -70,8 +58,6 @@ commit-window-spec =
     element-write-opens
     mul-closes
     element-write-closes
-    limits-requires
-    lay-requires
-    settle-requires
+    widen-requires
     same-length
     returns)

@@ -1,10 +1,10 @@
 -- `lay` meets its contract. The invariant: the pairs of the first i events are stored.
 use native.Mathlib.Omega.{arith}
-use borrow.Author.Needs.{needs}
 use Prim.Native.Nat.{_-_, _≤_}
 use mathlib.Core.Path.{_≡_}
 use Rattle.network.specs.Stored.{at}
-use Rattle.windows.specs.Pairs.{Pairs, pairs-none, pairs-more}
+use Rattle.windows.specs.Pairs.{Pairs, pairs-none, pairs-more, put-pair}
+use borrow.Author.Needs.{needs}
 use Rattle.windows.proofs.lay.Statement.{statement}
 use Rattle.windows.proofs.lay.Tie as tie
 
@@ -17,11 +17,16 @@ abbrev μ-loop : tie.MeasureT-loop
 loop-holds : tie.Need-loop-holds Inv-loop μ-loop
 loop-holds c = (omega arith, pairs-none _ _ _ _ (c .pre .1))
 
-put-pair-requires : tie.Need-put-pair-requires Inv-loop μ-loop
-put-pair-requires c κs = (omega arith, omega arith, c .before .before .before .before .loop .inv .1 .nodes .long)
+element-write-pot : tie.Need-element-write-pot Inv-loop μ-loop
+element-write-pot c = omega (arith, c .before .before .loop .inv .1 .nodes .long)
+
+element-write-pot-2 : tie.Need-element-write-pot-2 Inv-loop μ-loop
+element-write-pot-2 c = omega (arith, c .before .before .before .loop .inv .1 .nodes .long)
 
 loop-again : tie.Need-loop-again Inv-loop μ-loop
-loop-again c = (omega arith, pairs-more (omega arith) (c .before .before .before .before .before .loop .inv .1) (c .put-pair .ensures))
+loop-again c =
+    let h = c .before .before .before .loop .inv .1 in
+    (omega arith, pairs-more (omega arith) h (put-pair _ _ _ _ _ (omega arith) (omega (arith, h .nodes .long))))
 
 returns : tie.Need-returns Inv-loop μ-loop
 returns c =
@@ -39,7 +44,13 @@ lay-spec =
     (λ c. search needs)
     (λ c. search needs)
     (λ c. search needs)
-    put-pair-requires
+    element-write-pot
+    (λ c. search needs)
+    (λ c. search needs)
+    (λ c. search needs)
+    (λ c. search needs)
+    (λ c. search needs)
+    element-write-pot-2
     (λ c. search needs)
     (λ c. search needs)
     loop-again

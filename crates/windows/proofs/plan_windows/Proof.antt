@@ -1,70 +1,57 @@
--- `plan_windows` meets its contract, by those of `schedule` and `settle`.
+-- `plan_windows` meets its contract, by those of `schedule` and `place`.
 use native.Mathlib.Omega.{arith}
-use mathlib.Core.Path.{refl, sym, _∙_}
+use mathlib.Core.Path.{sym, _∙_}
 use Rattle.windows.specs.Arrays.{valid-given, within-same}
 use Rattle.windows.specs.Rules.{differ}
-use Rattle.windows.specs.Schedule.{low-zeros}
-use Rattle.windows.specs.Settle.{plan-started, plan-answer, plan-lies, plan-none}
+use Rattle.windows.specs.Schedule.{low-zeros, decided-found}
+use Rattle.windows.specs.Settle.{plan-answer, plan-lies, plan-none}
 use Rattle.windows.proofs.plan_windows.Statement.{statement}
 use Rattle.windows.proofs.plan_windows.Tie as tie
 
 schedule-requires : tie.Need-schedule-requires
-schedule-requires c κs =
-    let G = valid-given (c .before .before .before .args .t) (c .before .before .before .pre .0) in
-    (G, (omega (arith, c .before .before .before .pre .1 .size), low-zeros _ _))
+schedule-requires c κs = (valid-given (c .before .before .before .args .t) (c .before .before .before .pre .0), (omega (arith, c .before .before .before .pre .1 .size), low-zeros _ _))
 
-spread-requires : tie.Need-spread-requires
-spread-requires c κs = (valid-given (c .before .before .before .before .before .before .before .before .before .args .t) (c .before .before .before .before .before .before .before .before .before .pre .0) .few, record { long = refl; origin = refl })
-
-settle-requires : tie.Need-settle-requires
-settle-requires c κs =
-    let G = valid-given (c .before .before .before .before .before .before .before .before .before .before .before .before .before .before .before .before .args .t) (c .before .before .before .before .before .before .before .before .before .before .before .before .before .before .before .before .pre .0) in
-    let R = c .before .before .before .before .before .before .before .before .before .before .before .before .before .before .before .before .pre .1 in (
-      G,
-      (
-        record { size = omega (arith, R .size, c .before .before .before .before .before .before .before .before .before .before .before .before .schedule .ensures .1); opens-long = R .opens-long; closes-long = R .closes-long },
-        plan-started G (c .before .before .before .before .before .before .before .before .before .before .before .before .schedule .ensures .0) (c .before .before .before .before .before .before .before .before .before .if1 .taken) (c .before .before .before .before .before .before .spread .ensures),
-      ),
-    )
+place-requires : tie.Need-place-requires
+place-requires c κs =
+    let R = c .before .before .before .before .before .before .before .before .before .before .before .pre .1 in
+    (valid-given (c .before .before .before .before .before .before .before .before .before .before .before .args .t) (c .before .before .before .before .before .before .before .before .before .before .before .pre .0), (record { size = omega (arith, R .size, c .before .before .before .before .before .before .before .schedule .ensures .1); opens-long = R .opens-long; closes-long = R .closes-long }, decided-found (c .before .before .before .before .before .before .before .schedule .ensures .0) (c .before .before .before .before .if1 .taken)))
 
 same-length : tie.Need-same-length
-same-length c = c .before .before .settle .ensures .1 .1 ∙ c .before .before .before .before .before .before .before .before .before .before .before .before .before .before .before .schedule .ensures .1
+same-length c = c .before .before .place .ensures .1 .1 ∙ c .before .before .before .before .before .before .before .before .before .before .schedule .ensures .1
 
 returns : tie.Need-returns
 returns c =
-    let G = valid-given (c .before .before .before .before .before .before .before .before .before .before .before .before .before .before .before .before .before .before .before .args .t) (c .before .before .before .before .before .before .before .before .before .before .before .before .before .before .before .before .before .before .before .pre .0) in
-    let s = c .before .before .settle .ensures in (
+    let G = valid-given (c .before .before .before .before .before .before .before .before .before .before .before .before .before .before .args .t) (c .before .before .before .before .before .before .before .before .before .before .before .before .before .before .pre .0) in
+    let s = c .before .before .place .ensures in (
       record {
-        answer = plan-answer G _ _ (s .0) (c .before .before .before .before .before .before .before .before .before .before .before .before .before .before .before .schedule .ensures .0) (c .before .before .before .before .before .before .before .before .before .before .before .before .if1 .taken);
+        answer = plan-answer G _ _ (s .0) (c .before .before .before .before .before .before .before .before .before .before .schedule .ensures .0) (c .before .before .before .before .before .before .before .if1 .taken);
         lie = λ e. plan-lies G _ _ (s .0);
         opens-past = s .1 .0 .0;
         closes-past = s .1 .0 .1;
       },
-      s .1 .1 ∙ c .before .before .before .before .before .before .before .before .before .before .before .before .before .before .before .schedule .ensures .1,
+      s .1 .1 ∙ c .before .before .before .before .before .before .before .before .before .before .schedule .ensures .1,
     )
 
 same-length-2 : tie.Need-same-length-2
 same-length-2 c = c .before .before .before .schedule .ensures .1
 
 returns-2 : tie.Need-returns-2
-returns-2 c =
-    let G = valid-given (c .before .before .before .before .before .before .before .args .t) (c .before .before .before .before .before .before .before .pre .0) in (
-      record {
-        answer = plan-none G (c .before .before .before .schedule .ensures .0) (c .if1 .left);
-        lie = λ e. differ (sym e);
-        opens-past = within-same _ _;
-        closes-past = within-same _ _;
-      },
-      c .before .before .before .schedule .ensures .1,
-    )
+returns-2 c = (
+  record {
+    answer = plan-none (valid-given (c .before .before .before .before .before .before .before .args .t) (c .before .before .before .before .before .before .before .pre .0)) (c .before .before .before .schedule .ensures .0) (c .if1 .left);
+    lie = λ e. differ (sym e);
+    opens-past = within-same _ _;
+    closes-past = within-same _ _;
+  },
+  c .before .before .before .schedule .ensures .1,
+)
 
 pub plan-windows-spec : {M : Type 1} → statement M
 plan-windows-spec =
     tie.close
     (tie.spec
     schedule-requires
-    spread-requires
-    settle-requires
+    place-requires
     same-length
     returns
     same-length-2

@@ -1,19 +1,22 @@
 -- `put_rules` meets its contract. The invariant: the rules below j are stored.
 use native.Mathlib.Omega.{arith}
-use borrow.Author.Needs.{needs}
 use Prim.Native.Nat.{_*_, _-_, _≤_, _<_}
 use borrow.Author.Count.{below-none}
 use Rattle.network.specs.Edges.{Extends, extends-none, extends-trans}
 use Rattle.windows.specs.Rules.{given-small, given-bound}
 use Rattle.windows.specs.Network.{Ruled, ruled-more}
+use borrow.Author.Needs.{needs}
 use Rattle.windows.proofs.put_rules.Statement.{statement}
 use Rattle.windows.proofs.put_rules.Tie as tie
 
 abbrev Inv-loop : tie.InvT-loop
-Inv-loop net₀ t n m j₀ net j = (j ≤ m) × Extends net₀ net (5 * n) × Ruled net t n (5 * n) j
+Inv-loop net₀ t n m base j₀ net j = (j ≤ m) × Extends net₀ net (5 * n) × Ruled net t n (5 * n) j
 
 abbrev μ-loop : tie.MeasureT-loop
-μ-loop net₀ t n m j₀ net j = m - j
+μ-loop net₀ t n m base j₀ net j = m - j
+
+mul-base : tie.Need-mul-base Inv-loop μ-loop
+mul-base c = omega (arith, c .before .pre .0 .few)
 
 loop-holds : tie.Need-loop-holds Inv-loop μ-loop
 loop-holds c = (omega arith, extends-none _ _, below-none _)
@@ -29,11 +32,12 @@ put-rule-requires c κs =
 loop-again : tie.Need-loop-again Inv-loop μ-loop
 loop-again c =
     let G = c .before .before .before .before .before .before .before .before .before .before .pre .0 in
+    let t = c .before .before .before .before .before .before .before .before .before .before .args .t2 in
     let j = c .before .before .before .before .before .before .before .before .loop .j in
-    let lj : j < c .before .before .before .before .before .before .before .before .before .before .args .t2 .rules = omega arith in
+    let lj : j < t .rules = omega arith in
     let h = c .before .before .before .before .before .before .before .before .loop .inv in
     let p = rw (given-bound G j lj) at (c .before .before .put-rule .ensures) in
-    (omega arith, extends-trans (omega arith) (h .1) (p .extends), ruled-more (c .before .before .before .before .before .before .before .before .before .before .args .t2) (c .before .before .before .before .before .before .before .before .before .before .args .t2 .events) (5 * c .before .before .before .before .before .before .before .before .before .before .args .t2 .events) j (h .2) p)
+    (omega arith, extends-trans (omega arith) (h .1) (p .extends), ruled-more t (t .events) (5 * t .events) j (h .2) p)
 
 same-length : tie.Need-same-length Inv-loop μ-loop
 same-length c = c .before .loop .inv .1 .long
@@ -47,8 +51,8 @@ put-rules-spec =
     (tie.spec
     Inv-loop
     μ-loop
+    mul-base
     loop-holds
-    (λ c. search needs)
     (λ c. search needs)
     (λ c. search needs)
     (λ c. search needs)

@@ -1,42 +1,29 @@
 -- `relax` meets its contract. The invariant: the times stay within the horizon.
-use native.Mathlib.Omega.{arith}
-use borrow.Author.Needs.{needs}
-use Prim.Native.Nat.{_<_}
-use Rattle.windows.specs.Rules.{given-small, given-bound}
 use Rattle.windows.specs.Schedule.{Low}
+use borrow.Author.Needs.{needs}
 use Rattle.windows.proofs.relax.Statement.{statement}
 use Rattle.windows.proofs.relax.Tie as tie
 
 abbrev Inv-loop : tie.InvT-loop
-Inv-loop times₀ t n m h more₀ j₀ steps₀ times more j steps = Low n h times
+Inv-loop t times₀ rounds₀ times rounds = Low (t .events) (t .horizon) times
 
 abbrev μ-loop : tie.MeasureT-loop
-μ-loop times₀ t n m h more₀ j₀ steps₀ times more j steps = steps
+μ-loop t times₀ rounds₀ times rounds = rounds
 
 loop-holds : tie.Need-loop-holds Inv-loop μ-loop
 loop-holds c = c .pre .1
 
-raise-requires : tie.Need-raise-requires Inv-loop μ-loop
-raise-requires c κs =
-    let G = c .before .before .before .before .before .before .before .pre .0 in
-    let j = c .before .before .before .before .before .before .loop .j in
-    let lj : j < c .before .before .before .before .before .before .before .args .t1 .rules = omega arith in
-    (c .before .before .before .before .before .before .loop .inv, (rw (given-bound G j lj) (given-small G j lj), (G .few, G .top)))
+round-requires : tie.Need-round-requires Inv-loop μ-loop
+round-requires c κs = (c .before .before .before .pre .0, c .before .before .loop .inv)
 
 returns : tie.Need-returns Inv-loop μ-loop
-returns c = c .before .raise .ensures
+returns c = c .before .round .ensures
 
 loop-again : tie.Need-loop-again Inv-loop μ-loop
-loop-again c = c .before .before .raise .ensures
+loop-again c = c .before .round .ensures
 
 returns-2 : tie.Need-returns-2 Inv-loop μ-loop
-returns-2 c = c .before .before .before .loop .inv
-
-loop-again-2 : tie.Need-loop-again-2 Inv-loop μ-loop
-loop-again-2 c = c .before .before .before .loop .inv
-
-returns-3 : tie.Need-returns-3 Inv-loop μ-loop
-returns-3 c = c .before .loop .inv
+returns-2 c = c .before .loop .inv
 
 pub relax-spec : {M : Type 1} → statement M
 relax-spec =
@@ -45,17 +32,9 @@ relax-spec =
     Inv-loop
     μ-loop
     loop-holds
-    (λ c. search needs)
-    (λ c. search needs)
-    (λ c. search needs)
-    (λ c. search needs)
-    (λ c. search needs)
-    raise-requires
+    round-requires
     returns
     (λ c. search needs)
     (λ c. search needs)
     loop-again
-    returns-2
-    (λ c. search needs)
-    loop-again-2
-    returns-3)
+    returns-2)

@@ -14,7 +14,7 @@ obeyed-requires c κs = (c .before .before .before .before .pre .0, (omega arith
 returns : tie.Need-returns
 returns c =
     let L = c .before .before .before .relax .ensures in
-    (decided-yes (record { origin = L .origin; inside = L .most; obeys = c .before .obeyed .ensures .holds (c .if1 .taken) }), refl)
+    (decided-yes (L .long) (record { origin = L .origin; inside = L .most; obeys = c .before .obeyed .ensures .holds (c .if1 .taken) }), refl)
 
 search-requires : tie.Need-search-requires
 search-requires c κs = (c .before .before .before .before .before .before .before .before .pre .0, (c .before .before .before .before .before .before .before .before .pre .1 .0, c .before .before .before .before .before .relax .ensures))

@@ -1,48 +1,50 @@
 -- `settle` meets its contract, by those of its parts.
-use borrow.Author.Needs.{needs}
+use native.Mathlib.Omega.{arith}
 use mathlib.Core.Path.{_∙_}
 use Rattle.windows.specs.Network.{built-flowless, built-spans, potential-chosen}
-use Rattle.windows.specs.Pairs.{weighs-none, read-windows}
+use Rattle.windows.specs.Pairs.{read-windows}
 use Rattle.windows.proofs.settle.Statement.{statement}
 use Rattle.windows.proofs.settle.Tie as tie
 
-weigh-requires : tie.Need-weigh-requires
-weigh-requires c κs = (c .before .before .before .before .pre .0 .few, weighs-none _)
-
 build-requires : tie.Need-build-requires
-build-requires c κs = (c .before .before .before .before .before .before .pre .0, (c .before .before .before .before .before .before .pre .1 .0 .size, c .before .before .before .before .before .before .pre .1 .1 .limits))
+build-requires c κs = (c .before .before .pre .0, (c .before .before .pre .1 .0 .size, c .before .before .pre .1 .1 .limits))
 
-solve-requires : tie.Need-solve-requires
-solve-requires c κs =
-    let p = c .before .before .before .before .before .before .before .before .before .before .before .before .pre in
-    let B = c .before .before .before .before .before .build .ensures .0 in
+mul-widest : tie.Need-mul-widest
+mul-widest c = omega (arith, c .before .before .before .before .before .before .pre .0 .few)
+
+add-widest : tie.Need-add-widest
+add-widest c = omega (arith, c .before .before .before .before .before .before .pre .0 .few, c .before .before .before .before .before .before .pre .0 .most)
+
+widest-requires : tie.Need-widest-requires
+widest-requires c κs =
+    let p = c .before .before .before .before .before .before .before .before .before .pre in
+    let B = c .before .before .before .before .before .before .build .ensures .0 in
     let S = p .1 .1 in
-    (built-flowless B (p .0) (S .limits) _ (S .long) (S .meeting), (built-spans B (p .0) (S .limits), c .before .before .before .before .before .before .before .weigh .ensures .weights))
+    (p .0 .few, (built-flowless B (p .0) (S .limits) _ (S .long) (S .meeting), built-spans B (p .0) (S .limits)))
 
 read-windows-requires : tie.Need-read-windows-requires
-read-windows-requires c κs = (c .before .before .before .before .before .before .before .before .before .before .before .before .before .before .before .before .before .before .pre .0 .few, (c .before .before .before .before .before .before .before .before .before .before .before .before .before .before .before .before .before .before .pre .1 .0 .opens-long, c .before .before .before .before .before .before .before .before .before .before .before .before .before .before .before .before .before .before .pre .1 .0 .closes-long))
+read-windows-requires c κs = (c .before .before .before .before .before .before .before .before .before .before .before .before .before .before .before .pre .0 .few, (c .before .before .before .before .before .before .before .before .before .before .before .before .before .before .before .pre .1 .0 .opens-long, c .before .before .before .before .before .before .before .before .before .before .before .before .before .before .before .pre .1 .0 .closes-long))
 
 same-length : tie.Need-same-length
-same-length c = c .before .before .before .before .before .before .solve .ensures .long ∙ c .before .before .before .before .before .before .before .before .before .before .before .before .build .ensures .1
+same-length c = c .before .before .before .before .before .before .widest .ensures .1 ∙ c .before .before .before .before .before .before .before .before .before .before .before .before .before .build .ensures .1
 
 returns : tie.Need-returns
 returns c =
-    let p = c .before .before .before .before .before .before .before .before .before .before .before .before .before .before .before .before .before .before .before .pre in
+    let p = c .before .before .before .before .before .before .before .before .before .before .before .before .before .before .before .before .pre in
     let R = c .read-windows .ensures in
-    let best = c .before .before .before .before .before .before .solve .ensures .best in (
-      rw (read-windows R) (potential-chosen (c .before .before .before .before .before .before .before .before .before .before .before .before .build .ensures .0) (p .0) (p .1 .1 .limits) _ _ (c .before .before .before .before .before .before .before .before .before .before .before .before .before .before .weigh .ensures .owned) best),
-      ((R .opens-within, R .closes-within), c .before .before .before .before .before .before .solve .ensures .long ∙ c .before .before .before .before .before .before .before .before .before .before .before .before .build .ensures .1),
+    let best = c .before .before .before .before .before .before .widest .ensures .0 in (
+      rw (read-windows R) (potential-chosen (c .before .before .before .before .before .before .before .before .before .before .before .before .before .build .ensures .0) (p .0) (p .1 .1 .limits) (best .weights) _ (best .owned) (best .best)),
+      ((R .opens-within, R .closes-within), c .before .before .before .before .before .before .widest .ensures .1 ∙ c .before .before .before .before .before .before .before .before .before .before .before .before .before .build .ensures .1),
     )
 
 pub settle-spec : {M : Type 1} → statement M
 settle-spec =
     tie.close
     (tie.spec
-    weigh-requires
     build-requires
-    (λ c. search needs)
-    (λ c. search needs)
-    solve-requires
+    mul-widest
+    add-widest
+    widest-requires
     read-windows-requires
     same-length
     returns)

@@ -1,35 +1,34 @@
--- `spread` meets its contract. The invariant: the pairs of the first i events are stored.
+-- `spread` meets its contract. The invariant: the closes of the first i events have their times.
 use native.Mathlib.Omega.{arith}
-use borrow.Author.Needs.{needs}
-use Prim.Native.Nat.{suc, _+_, _-_, _≤_}
+use Prim.Native.Nat.{_-_, _≤_}
 use mathlib.Core.Path.{_≡_}
-use Rattle.network.specs.Stored.{at}
-use Rattle.windows.specs.Pairs.{Pairs, pairs-none, pairs-more}
+use Rattle.windows.specs.Pairs.{Spreads, spreads-none, spreads-more, spreads-pairs}
+use borrow.Author.Needs.{needs}
 use Rattle.windows.proofs.spread.Statement.{statement}
 use Rattle.windows.proofs.spread.Tie as tie
 
 abbrev Inv-loop : tie.InvT-loop
-Inv-loop n times pot₀ i₀ pot i = (i ≤ n) × Pairs n (λ j. at times (suc j)) (λ j. at times (suc j)) pot i
+Inv-loop n pot₀ i₀ pot i = (i ≤ n) × Spreads n pot₀ pot i
 
 abbrev μ-loop : tie.MeasureT-loop
-μ-loop n times pot₀ i₀ pot i = n - i
+μ-loop n pot₀ i₀ pot i = n - i
 
 loop-holds : tie.Need-loop-holds Inv-loop μ-loop
-loop-holds c = (omega arith, pairs-none _ _ _ _ (c .pre .1))
+loop-holds c = (omega arith, spreads-none _ _ (c .pre .1 .long))
 
-put-pair-requires : tie.Need-put-pair-requires Inv-loop μ-loop
-put-pair-requires c κs = (omega arith, omega arith, c .before .before .before .before .loop .inv .1 .nodes .long)
+element-copy-out-pot : tie.Need-element-copy-out-pot Inv-loop μ-loop
+element-copy-out-pot c = omega (arith, c .before .loop .inv .1 .long)
+
+element-write-pot : tie.Need-element-write-pot Inv-loop μ-loop
+element-write-pot c = omega (arith, c .before .before .loop .inv .1 .long)
 
 loop-again : tie.Need-loop-again Inv-loop μ-loop
-loop-again c =
-    let i = c .before .before .before .before .before .loop .i in
-    let e : i + 1 ≡ suc i = omega arith in
-    (omega arith, pairs-more (omega arith) (c .before .before .before .before .before .loop .inv .1) (rw e at (c .put-pair .ensures)))
+loop-again c = (omega arith, spreads-more (omega arith) (omega arith) (c .before .before .loop .inv .1))
 
 returns : tie.Need-returns Inv-loop μ-loop
 returns c =
     let e : c .before .loop .i ≡ c .before .before .args .n = omega arith in
-    rw e at (c .before .loop .inv .1)
+    spreads-pairs (c .before .before .pre .1) (rw e at (c .before .loop .inv .1))
 
 pub spread-spec : {M : Type 1} → statement M
 spread-spec =
@@ -40,11 +39,11 @@ spread-spec =
     loop-holds
     (λ c. search needs)
     (λ c. search needs)
+    element-copy-out-pot
     (λ c. search needs)
     (λ c. search needs)
     (λ c. search needs)
-    (λ c. search needs)
-    put-pair-requires
+    element-write-pot
     (λ c. search needs)
     (λ c. search needs)
     loop-again
