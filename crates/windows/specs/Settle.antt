@@ -26,7 +26,7 @@ use Rattle.windows.specs.Arrays.{windowList, flagList, stateIn, firsts-s
 use Rattle.windows.specs.Nodes.{closeNode, close-self, by-nodes, potentialOf}
 use Rattle.windows.specs.Rules.{timesOf, schedule-timed, timed-schedule}
 use Rattle.windows.specs.Network.{Meeting, meeting-same, Limits, Allowed}
-use Rattle.windows.specs.Boxes.{Free, free-top, free-chosen, Kept, cond-most, grows-allowed, kept-top, kept-chosen, allowed-lies}
+use Rattle.windows.specs.Boxes.{Free, free-top, free-chosen, Kept, cond-most, grows-allowed, kept-chosen, allowed-lies}
 use Rattle.windows.specs.Schedule.{Decided}
 use Rattle.windows.specs.Pairs.{Pairs, Limited, pairs-potential, replicate-most}
 

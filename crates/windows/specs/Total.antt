@@ -4,7 +4,7 @@ use mathlib.Core.Path.{_≡_, refl, ap, _∙_}
 use mathlib.Core.List.{List}
 use native.Mathlib.Omega.{arith}
 use native.Mathlib.Nat.{mul-le-mul-left, mul-le-mul-right}
-use Rattle.temporal.specs.Ticket.{Window, weight, weight-small, total}
+use Rattle.temporal.specs.Ticket.{Window, weight, total}
 use Rattle.network.specs.Sum.{sum, sum-cong}
 use Rattle.network.specs.Stored.{at}
 use Rattle.ticket.specs.declared.Ticket.{Ticket}
@@ -15,8 +15,8 @@ use Rattle.windows.specs.Nodes.{total-in}
 abbrev pub part : List ℕ → List ℕ → List ℕ → ℕ → ℕ
 part owners opens closes i = weight (at owners i) * (at closes i - at opens i)
 
-pub part-most : (owner x : ℕ) → x ≤ 1000000 → weight owner * x ≤ 3000000
-part-most owner x l = omega (arith, mul-le-mul-left (weight owner) l, mul-le-mul-right 1000000 (weight-small owner))
+pub part-most : (w x : ℕ) → w ≤ 3 → x ≤ 1000000 → w * x ≤ 3000000
+part-most w x h l = omega (arith, mul-le-mul-left w l, mul-le-mul-right 1000000 h)
 
 pub sum-next : (i : ℕ) (f : ℕ → ℕ) → sum (i + 1) f ≡ sum i f + f i
 unfolding sum

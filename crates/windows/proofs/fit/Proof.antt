@@ -12,7 +12,8 @@ lay-requires c κs = (valid-given (c .before .args .t) (c .before .pre .0) .few,
 obeyed-requires : tie.Need-obeyed-requires
 obeyed-requires c κs =
     let G = valid-given (c .before .before .before .args .t) (c .before .before .before .pre .0) in
-    (G, (omega arith, laid-most G _ _ (c .before .before .before .pre .1) (c .before .lay .ensures)))
+    let s = c .before .before .before in
+    (G, (omega arith, λ v l. laid-most G (s .args .opens .now) (s .args .closes .now) (s .pre .1) (c .before .lay .ensures) v (omega arith)))
 
 returns : tie.Need-returns
 returns c = fit-answer (valid-given (c .before .before .before .before .args .t) (c .before .before .before .before .pre .0)) _ _ (c .before .before .before .before .pre .1) (c .before .before .lay .ensures) _ (c .obeyed .ensures)

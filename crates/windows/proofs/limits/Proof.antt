@@ -1,9 +1,9 @@
 -- `limits` meets its contract. The invariant: the first i windows may grow, unless they are committed.
 use native.Mathlib.Omega.{arith}
 use Prim.Native.Nat.{_-_, _≤_}
-use mathlib.Core.Path.{_≡_, sym, ap, _∙_}
+use mathlib.Core.Path.{_≡_, ap, _∙_}
 use lib.ListN.{length}
-use Rattle.windows.specs.Pairs.{loosened, loosened-none, loosened-more, loosened-length, grown-by}
+use Rattle.windows.specs.Pairs.{loosened, loosened-none, loosened-length, grown-by}
 use borrow.Author.Needs.{needs}
 use Rattle.windows.proofs.limits.Statement.{statement}
 use Rattle.windows.proofs.limits.Tie as tie
