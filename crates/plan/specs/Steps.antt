@@ -46,29 +46,31 @@ edges-room t net opens closes v l o c = record {
   closes-long = c;
 }
 
--- ---- the first cause by numbers: whether the windows are fit, n events, the event, its flag, the window named and the window that the event has
+-- ---- the first cause by numbers: whether the windows are fit, n events, the event, its flag, whether the window named leaves the one that the event has
 
-abbrev pub firstCause : Bool → ℕ → ℕ → Bool → ℕ → ℕ → ℕ → ℕ → ℕ
-firstCause fit n event committed opens closes first last =
+abbrev pub firstCause : Bool → ℕ → ℕ → Bool → Bool → ℕ
+firstCause fit n event committed leaves =
     cond (not fit) 15
     (cond (eqb event 0 || ltb n event) 11
     (cond committed 12
-    (cond (ltb closes opens || (ltb opens first || ltb last closes)) 13
+    (cond leaves 13
     0)))
 
 module _ (r : Record) (ok : Kept r) (event opens closes : ℕ) where
   pub cause-of : cause (stateOf r) (asking event opens closes)
       ≡ firstCause (fits (content (r .ticket)) (stateOf r .windows)) (r .ticket .events) event (eqb (at (0 ∷ r .flags) event) 1)
-      opens closes (at (0 ∷ r .opens) event) (at (0 ∷ r .closes) event)
+      (ltb closes opens || (ltb opens (at (0 ∷ r .opens) event) || ltb (at (0 ∷ r .closes) event) closes))
   unfolding cause
   cause-of = rw (in-events (r .ticket), flag-of r ok event, open-of r ok event, close-of r ok event)
 
-  pub cause-told : {fit committed : Bool} {first last k : ℕ}
+  pub cause-told : {fit committed leaves : Bool} {first last k : ℕ}
       → fits (content (r .ticket)) (windowList (r .ticket .events) (r .opens) (r .closes)) ≡ fit
       → committed ≡ eqb (at (0 ∷ r .flags) event) 1 → first ≡ at (0 ∷ r .opens) event → last ≡ at (0 ∷ r .closes) event
-      → k ≡ firstCause fit (r .ticket .events) event committed opens closes first last → k ≡ cause (stateOf r) (asking event opens closes)
+      → leaves ≡ (ltb closes opens || (ltb opens first || ltb last closes)) → k ≡ firstCause fit (r .ticket .events) event committed leaves → k ≡ cause (stateOf r) (asking event opens closes)
   unfolding windowList
-  cause-told f p x y q = q ∙ (λ i. firstCause (sym f i) (r .ticket .events) event (p i) opens closes (x i) (y i)) ∙ sym cause-of
+  cause-told f p x y o q =
+      let l = o ∙ (λ i. ltb closes opens || (ltb opens (x i) || ltb (y i) closes)) in
+      q ∙ (λ i. firstCause (sym f i) (r .ticket .events) event (p i) (l i)) ∙ sym cause-of
 
   -- the number of accepted commitments does not count
   cause-count : (m : ℕ) → cause (stateIn (r .ticket) (r .flags) (r .opens) (r .closes) m) (asking event opens closes) ≡ cause (stateOf r) (asking event opens closes)

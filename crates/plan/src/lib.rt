@@ -4,7 +4,8 @@
 ghost use mathlib.Core.Path.{_≡_};
 ghost use mathlib.Core.List.{_∷_};
 ghost use Prim.Native.Nat.{_≤_};
-ghost use lib.Dec.{eqb};
+ghost use mathlib.Core.Bool.{not, _&&_, _||_};
+ghost use lib.Dec.{leb, ltb, eqb};
 ghost use lib.ListN.{length};
 ghost use Rattle.temporal.specs.Ticket.{total};
 ghost use Rattle.temporal.specs.Plan.{State, plan, cause, commit, accepted, asking};
@@ -39,6 +40,16 @@ fn refusal(number: u32) -> Answer
     }
 }
 
+// Whether an output or scratch of these lengths is too short.
+fn short(out: usize, scratch: usize) -> bool
+    ensures { λ r. ⌜ r ≡ not (leb 1948 out && leb 8192 scratch) ⌝ }
+{
+    if out < 1948 {
+        return true;
+    }
+    scratch < 8192
+}
+
 // Put 0 into the first 8,192 numbers.
 fn clear(scratch: &mut [u32])
     requires { ⌜ 8192 ≤ length (now scratch) ⌝ }
@@ -51,18 +62,22 @@ fn clear(scratch: &mut [u32])
     }
 }
 
-// The first cause to refuse a commitment, 0 if there is none: of n events, the event's flag, and its window from first to last.
-fn first_cause(
-    fit: bool,
-    n: u32,
-    event: u32,
-    committed: bool,
-    opens: u32,
-    closes: u32,
-    first: u32,
-    last: u32,
-) -> u32
-    ensures { λ r. ⌜ r ≡ firstCause fit n event committed opens closes first last ⌝ }
+// Whether a window does not lie inside the one from first to last.
+fn outside(opens: u32, closes: u32, first: u32, last: u32) -> bool
+    ensures { λ r. ⌜ r ≡ (ltb closes opens || (ltb opens first || ltb last closes)) ⌝ }
+{
+    if closes < opens {
+        return true;
+    }
+    if opens < first {
+        return true;
+    }
+    last < closes
+}
+
+// The first cause to refuse a commitment, 0 if there is none: of n events, the event's flag, and whether the window leaves the event's.
+fn first_cause(fit: bool, n: u32, event: u32, committed: bool, leaves: bool) -> u32
+    ensures { λ r. ⌜ r ≡ firstCause fit n event committed leaves ⌝ }
 {
     if !fit {
         return 15;
@@ -76,13 +91,7 @@ fn first_cause(
     if committed {
         return 12;
     }
-    if closes < opens {
-        return 13;
-    }
-    if opens < first {
-        return 13;
-    }
-    if last < closes {
+    if leaves {
         return 13;
     }
     0
@@ -127,16 +136,14 @@ fn cause(r: ticket::Record, event: u32, opens: u32, closes: u32) -> u32
     let lasts = r.closes;
     let fit = windows::fit(t, &firsts, &lasts);
     let n = t.events as u32;
-    first_cause(
-        fit,
-        n,
-        event,
-        flag_at(&flags, event),
+    let committed = flag_at(&flags, event);
+    let leaves = outside(
         opens,
         closes,
         number_at(&firsts, event),
         number_at(&lasts, event),
-    )
+    );
+    first_cause(fit, n, event, committed, leaves)
 }
 
 // Write the record into the output.
@@ -203,10 +210,7 @@ pub fn plan(ticket: &[u8], out: &mut [u8], scratch: &mut [u32]) -> Answer
     ensures { λ a. ⌜ now (out .exit) ≡ planning (now (ticket .entry)) (now (out .entry)) (now (scratch .entry)) .out ⌝ }
     ensures { λ a. ⌜ now (scratch .exit) ≡ planning (now (ticket .entry)) (now (out .entry)) (now (scratch .entry)) .scratch ⌝ }
 {
-    if out.len() < 1948 {
-        return refusal(10);
-    }
-    if scratch.len() < 8192 {
+    if short(out.len(), scratch.len()) {
         return refusal(10);
     }
     let answer = plan_bytes(ticket, out, scratch);
@@ -303,10 +307,7 @@ pub fn commit(
     ensures { λ a. ⌜ now (out .exit) ≡ committing (now («record» .entry)) event opens closes (now (out .entry)) (now (scratch .entry)) .out ⌝ }
     ensures { λ a. ⌜ now (scratch .exit) ≡ committing (now («record» .entry)) event opens closes (now (out .entry)) (now (scratch .entry)) .scratch ⌝ }
 {
-    if out.len() < 1948 {
-        return refusal(10);
-    }
-    if scratch.len() < 8192 {
+    if short(out.len(), scratch.len()) {
         return refusal(10);
     }
     let answer = commit_bytes(record, event, opens, closes, out, scratch);

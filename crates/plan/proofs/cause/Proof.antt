@@ -21,11 +21,11 @@ number-at-requires c κs = c .before .before .before .before .before .before .be
 number-at-requires-2 : tie.Need-number-at-requires-2
 number-at-requires-2 c κs = c .before .before .before .before .before .before .before .before .before .before .before .before .before .pre .closes-past .long
 
-first-cause-requires : tie.Need-first-cause-requires
-first-cause-requires c κs = search needs
-
 returns : tie.Need-returns
-returns c = cause-told (c .before .before .before .before .before .before .before .before .before .before .before .before .before .before .before .args .r) (c .before .before .before .before .before .before .before .before .before .before .before .before .before .before .before .pre) (c .before .before .before .before .before .before .before .before .before .before .before .before .before .before .before .args .event) (c .before .before .before .before .before .before .before .before .before .before .before .before .before .before .before .args .opens) (c .before .before .before .before .before .before .before .before .before .before .before .before .before .before .before .args .closes) (c .before .before .before .before .before .before .before .before .fit .ensures) (c .before .before .before .before .before .flag-at .ensures) (c .before .before .before .number-at .ensures) (c .before .number-at2 .ensures) (c .first-cause .ensures)
+returns c =
+    let s = c .before .before .before .before .before .before .before .before .before .before .before .before .before .before .before .before in
+    cause-told (s .args .r) (s .pre) (s .args .event) (s .args .opens) (s .args .closes)
+    (c .before .before .before .before .before .before .before .before .before .fit .ensures) (c .before .before .before .before .before .before .flag-at .ensures) (c .before .before .before .before .number-at .ensures) (c .before .before .number-at2 .ensures) (c .before .outside .ensures) (c .first-cause .ensures)
 
 pub cause-spec : {M : Type 1} → statement M
 cause-spec =
@@ -36,5 +36,6 @@ cause-spec =
     flag-at-requires
     number-at-requires
     number-at-requires-2
-    first-cause-requires
+    (λ c κs. search needs)
+    (λ c κs. search needs)
     returns)

@@ -1,0 +1,18 @@
+-- `plan::short` meets its contract. Assumes nothing.
+use borrow.Author.Tests.{le-leb, lt-leb}
+use Rattle.plan.specs.Meets.{ltb-leb}
+use Rattle.plan.proofs.short.Statement.{statement}
+use Rattle.plan.proofs.short.Tie as tie
+
+returns : tie.Need-returns
+returns c = rw (lt-leb 1948 (c .before .args .out) (c .if1 .taken))
+
+returns-2 : tie.Need-returns-2
+returns-2 c = rw (le-leb 1948 (c .before .args .out) (c .if1 .left)) (ltb-leb (c .before .args .scratch) 8192)
+
+pub short-spec : {M : Type 1} → statement M
+short-spec =
+    tie.close
+    (tie.spec
+    returns
+    returns-2)
