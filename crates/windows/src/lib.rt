@@ -76,14 +76,12 @@ fn obeyed(t: ticket::Ticket, n: usize, pot: &[u32; 81]) -> bool
     requires { ⌜ (n ≤ t .events) × ((v : ℕ) → v ≤ n + t .events → at (now pot) v ≤ 1000000) ⌝ }
     ensures { λ r. ⌜ Tests r (Obeyed t n (at (now (pot .entry)))) ⌝ }
 {
-    let events = t.events;
-    let m = t.rules;
     let mut j = 0;
-    while j < m {
+    while j < t.rules {
         let from = t.from[j];
         let to = t.to[j];
         let bound = t.bound[j];
-        if holds(pot, events, n, from, to, bound) {
+        if holds(pot, t.events, n, from, to, bound) {
             j += 1;
         } else {
             return false;
@@ -122,15 +120,13 @@ fn put_rules(net: &mut [u32], t: ticket::Ticket)
     ensures { λ _. ⌜ Extends (now (net .entry)) (now (net .exit)) (5 * t .events) ⌝ }
     ensures { λ _. ⌜ Ruled (now (net .exit)) t (t .events) (5 * t .events) (t .rules) ⌝ }
 {
-    let n = t.events;
-    let m = t.rules;
-    let base = 5 * n;
+    let base = 5 * t.events;
     let mut j = 0;
-    while j < m {
+    while j < t.rules {
         let from = t.from[j];
         let to = t.to[j];
         let bound = t.bound[j];
-        put_rule(net, base + j, n, from, to, bound);
+        put_rule(net, base + j, t.events, from, to, bound);
         j += 1;
     }
 }
@@ -287,16 +283,13 @@ fn round(t: ticket::Ticket, times: &mut [u32; 81]) -> u32
     requires { ⌜ Low (t .events) (t .horizon) (now times) ⌝ }
     ensures { λ _. ⌜ Low (t .events) (t .horizon) (now (times .exit)) ⌝ }
 {
-    let n = t.events;
-    let m = t.rules;
-    let h = t.horizon;
     let mut most = 0;
     let mut j = 0;
-    while j < m {
+    while j < t.rules {
         let from = t.from[j];
         let to = t.to[j];
         let bound = t.bound[j];
-        most = larger(most, raise(times, n, h, from, to, bound));
+        most = larger(most, raise(times, t.events, t.horizon, from, to, bound));
         if most == 2 {
             return 2;
         }
@@ -364,14 +357,12 @@ fn admit_rules(
     ensures { λ r. ⌜ Decided t (now (times .exit)) r ⌝ }
     ensures { λ _. ⌜ length (now (net .exit)) ≡ length (now (net .entry)) ⌝ }
 {
-    let n = t.events;
-    let m = t.rules;
     let mut j = 0;
-    while j < m {
+    while j < t.rules {
         let from = t.from[j];
         let to = t.to[j];
         let bound = t.bound[j];
-        if admit_rule(net, n, j, tails, heads, times, from, to, bound) {
+        if admit_rule(net, t.events, j, tails, heads, times, from, to, bound) {
             j += 1;
         } else {
             return false;

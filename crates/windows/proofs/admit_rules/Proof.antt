@@ -10,10 +10,10 @@ use Rattle.windows.proofs.admit_rules.Statement.{statement}
 use Rattle.windows.proofs.admit_rules.Tie as tie
 
 abbrev Inv-loop : tie.InvT-loop
-Inv-loop net₀ tails₀ heads₀ times₀ t n m j₀ net tails heads times j = (j ≤ m) × Tried net (length net₀) t times tails heads j
+Inv-loop net₀ tails₀ heads₀ times₀ t j₀ net tails heads times j = (j ≤ t .rules) × Tried net (length net₀) t times tails heads j
 
 abbrev μ-loop : tie.MeasureT-loop
-μ-loop net₀ tails₀ heads₀ times₀ t n m j₀ net tails heads times j = m - j
+μ-loop net₀ tails₀ heads₀ times₀ t j₀ net tails heads times j = t .rules - j
 
 loop-holds : tie.Need-loop-holds Inv-loop μ-loop
 loop-holds c = (omega arith, c .before .pre .1 .1)

@@ -9,10 +9,10 @@ use Rattle.windows.proofs.obeyed.Statement.{statement}
 use Rattle.windows.proofs.obeyed.Tie as tie
 
 abbrev Inv-loop : tie.InvT-loop
-Inv-loop n pot t events m j₀ j = (j ≤ m) × ((i : ℕ) → i < j → Holds t n (at pot) i)
+Inv-loop n pot t j₀ j = (j ≤ t .rules) × ((i : ℕ) → i < j → Holds t n (at pot) i)
 
 abbrev μ-loop : tie.MeasureT-loop
-μ-loop n pot t events m j₀ j = m - j
+μ-loop n pot t j₀ j = t .rules - j
 
 loop-holds : tie.Need-loop-holds Inv-loop μ-loop
 loop-holds c = (omega arith, below-none _)

@@ -10,10 +10,10 @@ use Rattle.windows.proofs.put_rules.Statement.{statement}
 use Rattle.windows.proofs.put_rules.Tie as tie
 
 abbrev Inv-loop : tie.InvT-loop
-Inv-loop net₀ t n m base j₀ net j = (j ≤ m) × Extends net₀ net (5 * n) × Ruled net t n (5 * n) j
+Inv-loop net₀ t base j₀ net j = (j ≤ t .rules) × Extends net₀ net (5 * t .events) × Ruled net t (t .events) (5 * t .events) j
 
 abbrev μ-loop : tie.MeasureT-loop
-μ-loop net₀ t n m base j₀ net j = m - j
+μ-loop net₀ t base j₀ net j = t .rules - j
 
 mul-base : tie.Need-mul-base Inv-loop μ-loop
 mul-base c = omega (arith, c .before .pre .0 .few)

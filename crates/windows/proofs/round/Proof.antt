@@ -8,10 +8,10 @@ use Rattle.windows.proofs.round.Statement.{statement}
 use Rattle.windows.proofs.round.Tie as tie
 
 abbrev Inv-loop : tie.InvT-loop
-Inv-loop times₀ t n m h most₀ j₀ times most j = (j ≤ m) × Low n h times
+Inv-loop times₀ t most₀ j₀ times most j = (j ≤ t .rules) × Low (t .events) (t .horizon) times
 
 abbrev μ-loop : tie.MeasureT-loop
-μ-loop times₀ t n m h most₀ j₀ times most j = m - j
+μ-loop times₀ t most₀ j₀ times most j = t .rules - j
 
 loop-holds : tie.Need-loop-holds Inv-loop μ-loop
 loop-holds c = (omega arith, c .pre .1)
