@@ -110,7 +110,10 @@ returns-2 : tie.Need-returns-2 Inv-loop μ-loop
 returns-2 c =
     let a = c .before .before .before .args in
     let l = c .before .loop in
-    rw (l .inv .4, l .inv .5, l .inv .6) (ap allRuled (sym (l .inv .7 ∙ many-done (readRule (a .n)) (a .m) (l .i) (l .inv .0) _ (omega arith))))
+    let rs = rulesOf 0 (l .inv .0) in
+    let e : a .m ≡ rs .count = omega (arith, l .inv .3) in
+    rw (l .inv .4, l .inv .5, l .inv .6)
+    (ap (λ k. record { number = 0; count = k; from = rs .from; to = rs .to; bound = rs .bound }) e ∙ ap allRuled (sym (l .inv .7 ∙ many-done (readRule (a .n)) (a .m) (l .i) (l .inv .0) _ (omega arith))))
 
 pub rules-at-spec : {M : Type 1} → statement M
 rules-at-spec =
