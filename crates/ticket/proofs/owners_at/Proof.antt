@@ -3,6 +3,7 @@ use Prim.Native.Nat.{ℕ, _+_, _-_, _≤_}
 use mathlib.Core.Path.{_≡_, refl, sym, ap, _∙_}
 use mathlib.Core.List.{List, [], _∷_, _++_}
 use native.Mathlib.Omega.{arith}
+use borrow.Author.Needs.{needs}
 use lib.ListN.{length, getD, set, drop, length-append}
 use Rattle.ticket.specs.Parser.{number, many}
 use Rattle.ticket.specs.Format.{readOwner}
@@ -27,7 +28,7 @@ abbrev μ-loop : tie.MeasureT-loop
 loop-holds : tie.Need-loop-holds Inv-loop μ-loop
 unfolding pad
 loop-holds c =
-    let a = c .args in
+    let a = c .before .args in
     let i : a .n - 0 ≡ a .n = omega arith in
     let j : a .at + 0 ≡ a .at = omega arith in
     ([], omega arith, omega arith, refl, refl, rw (i, j) (sym (after-none _)))
@@ -36,12 +37,12 @@ sub-if1 : tie.Need-sub-if1 Inv-loop μ-loop
 sub-if1 c = omega arith
 
 returns : tie.Need-returns Inv-loop μ-loop
-unfolding pad number
+unfolding number
 returns c =
-    let a = c .before .before .before .args in
-    let l = c .before .before .loop in
+    let a = c .before .before .before .before .before .args in
+    let l = c .before .before .before .loop in
     let s = a .s .now in
-    ap owned (sym (l .inv .5 ∙ many-stop readOwner (a .n) (l .i) (l .inv .0) _ _ (omega arith) (owner-short s (a .at + l .i) (omega arith))))
+    c .refused-owners .ensures ∙ ap owned (sym (l .inv .5 ∙ many-stop readOwner (a .n) (l .i) (l .inv .0) _ _ (omega arith) (owner-short s (a .at + l .i) (omega arith))))
 
 add-b : tie.Need-add-b Inv-loop μ-loop
 add-b c = omega arith
@@ -50,12 +51,12 @@ shared-slice-read-b : tie.Need-shared-slice-read-b Inv-loop μ-loop
 shared-slice-read-b c = omega arith
 
 returns-2 : tie.Need-returns-2 Inv-loop μ-loop
-unfolding pad number
+unfolding number
 returns-2 c =
-    let a = c .before .before .before .before .before .args in
-    let l = c .before .before .before .before .loop in
+    let a = c .before .before .before .before .before .before .before .args in
+    let l = c .before .before .before .before .before .loop in
     let s = a .s .now in
-    ap owned (sym (l .inv .5 ∙ many-stop readOwner (a .n) (l .i) (l .inv .0) _ _ (omega arith) (owner-bad s (a .at + l .i) (omega arith) (omega arith))))
+    c .refused-owners2 .ensures ∙ ap owned (sym (l .inv .5 ∙ many-stop readOwner (a .n) (l .i) (l .inv .0) _ _ (omega arith) (owner-bad s (a .at + l .i) (omega arith) (omega arith))))
 
 array-write-owners : tie.Need-array-write-owners Inv-loop μ-loop
 array-write-owners c = omega arith
@@ -68,7 +69,7 @@ loop-less c = omega arith
 
 loop-again : tie.Need-loop-again Inv-loop μ-loop
 loop-again c =
-    let a = c .before .before .before .before .before .args in
+    let a = c .before .before .before .before .before .before .args in
     let l = c .before .before .before .before .loop in
     let s = a .s .now in
     let xs = l .inv .0 in
@@ -86,7 +87,7 @@ loop-again c =
 
 returns-3 : tie.Need-returns-3 Inv-loop μ-loop
 returns-3 c =
-    let a = c .before .before .args in
+    let a = c .before .before .before .args in
     let l = c .before .loop in
     rw (l .inv .4) (ap owned (sym (l .inv .5 ∙ many-done readOwner (a .n) (l .i) (l .inv .0) _ (omega arith))))
 
@@ -98,9 +99,11 @@ owners-at-spec =
     μ-loop
     loop-holds
     sub-if1
+    (λ c κs. search needs)
     returns
     add-b
     shared-slice-read-b
+    (λ c κs. search needs)
     returns-2
     array-write-owners
     add-i
