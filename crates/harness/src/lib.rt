@@ -1,13 +1,16 @@
-// What the tests call beside the two functions of crate `beyunlak`: planning and commitment with lent scratch, the table, and reading a ticket
-// or a record and writing it back. Each answers the refusal number; a second result is stored through a reference.
+// What the tests call beside the two functions of crate `beyunlak`: planning and commitment with lent scratch, the table, reading a ticket
+// or a record and writing it back, and writing a ticket of given values. Each answers the refusal number; a second result is stored through a reference.
 ghost use mathlib.Core.Path.{_≡_};
 ghost use Prim.Native.Nat.{min};
 ghost use lib.ListN.{length};
+ghost use lib.IntN.{pos};
 ghost use Rattle.ticket.specs.Format.{readTicket, readState};
+ghost use Rattle.ticket.specs.Writing.{writtenOf, outputOf};
 ghost use Rattle.table.specs.Table.{tableOf};
 ghost use Rattle.table.specs.Rules.{rulesOf};
 ghost use Rattle.runs.specs.Calls.{planning, committing};
 ghost use Rattle.harness.specs.Rewriting.{rewriting};
+ghost use Rattle.harness.specs.Values.{placed, valued};
 ghost use Rattle.harness.specs.Rewriting.{narrow as Rewriting·narrow};
 
 fn narrow(x: usize) -> u32
@@ -116,6 +119,92 @@ pub extern "C" fn harness_rewrite_record(record: &[u8], out: &mut [u8], size: &m
     }
     let p = read.plan;
     let written = ticket::write_record(p, out);
+    let n = written.length;
+    *size = narrow(n);
+    written.number
+}
+
+fn lesser(a: usize, b: usize) -> usize
+    ensures { λ r. ⌜ r ≡ min a b ⌝ }
+{
+    if a < b { a } else { b }
+}
+
+// The first 40 numbers of s, then zeros; and so the first 256.
+fn owner_places(s: &[u8]) -> [u8; 40]
+    ensures { λ r. ⌜ r ≡ placed 0 40 (now (s .entry)) ⌝ }
+{
+    let mut places = [0u8; 40];
+    let n = lesser(s.len(), 40);
+    let mut i = 0;
+    while i < n {
+        places[i] = s[i];
+        i += 1;
+    }
+    places
+}
+
+fn point_places(s: &[u8]) -> [u8; 256]
+    ensures { λ r. ⌜ r ≡ placed 0 256 (now (s .entry)) ⌝ }
+{
+    let mut places = [0u8; 256];
+    let n = lesser(s.len(), 256);
+    let mut i = 0;
+    while i < n {
+        places[i] = s[i];
+        i += 1;
+    }
+    places
+}
+
+fn bound_places(s: &[i32]) -> [i32; 256]
+    ensures { λ r. ⌜ r ≡ placed (pos 0) 256 (now (s .entry)) ⌝ }
+{
+    let mut places = [0i32; 256];
+    let n = lesser(s.len(), 256);
+    let mut i = 0;
+    while i < n {
+        let c = s[i];
+        places[i] = c;
+        i += 1;
+    }
+    places
+}
+
+#[no_mangle]
+pub extern "C" fn harness_write_ticket(
+    horizon: u32,
+    events: u32,
+    owners: &[u8],
+    rules: u32,
+    from: &[u8],
+    to: &[u8],
+    bound: &[i32],
+    out: &mut [u8],
+    size: &mut u32,
+) -> u32
+    ensures { λ r.
+        ⌜ r ≡ writtenOf (now (out .entry)) (valued horizon events (now (owners .entry)) rules (now (from .entry)) (now (to .entry)) (now (bound .entry))) .number ⌝ }
+    ensures { λ _.
+        ⌜ now (out .exit) ≡ outputOf (now (out .entry)) (valued horizon events (now (owners .entry)) rules (now (from .entry)) (now (to .entry)) (now (bound .entry))) ⌝ }
+    ensures { λ _.
+        ⌜ now (size .exit)
+        ≡ Rewriting·narrow (writtenOf (now (out .entry)) (valued horizon events (now (owners .entry)) rules (now (from .entry)) (now (to .entry)) (now (bound .entry))) .length) ⌝ }
+{
+    let o = owner_places(owners);
+    let f = point_places(from);
+    let t = point_places(to);
+    let b = bound_places(bound);
+    let ticket = ticket::Ticket {
+        horizon,
+        events: events as usize,
+        owners: o,
+        rules: rules as usize,
+        from: f,
+        to: t,
+        bound: b,
+    };
+    let written = ticket::write_ticket(ticket, out);
     let n = written.length;
     *size = narrow(n);
     written.number
