@@ -68,9 +68,9 @@ front-at-spec =
     (λ c κs. search needs)
     returns-3
     (λ c. search needs)
+    (λ c. search needs)
     (λ c κs. search needs)
     returns-4
-    (λ c. search needs)
     (λ c κs. search needs)
     (λ c κs. search needs)
     returns-5
