@@ -1,8 +1,7 @@
 -- `ticket::plan_at` meets its contract. Each return is one part of the parser. Assumes nothing.
-use Prim.Native.Nat.{ℕ, _+_, _*_, _≤_}
+use Prim.Native.Nat.{_+_, _*_, _≤_}
 use mathlib.Core.Path.{_≡_, sym, ap, _∙_}
 use mathlib.Core.List.{List, []}
-use native.Mathlib.Omega.{arith}
 use lib.ListN.{length, drop}
 use Rattle.temporal.specs.Run.{setFlags}
 use Rattle.ticket.specs.Parser.{got, many}

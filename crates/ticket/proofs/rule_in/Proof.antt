@@ -5,7 +5,6 @@ use mir.Val.{toZ, ofZ, SFits}
 use mir.ValLaws.{toZ-ofZ}
 use Rattle.ticket.specs.Writing.{ruleIn}
 use Rattle.ticket.specs.WritingLaws.{same-bits}
-use Rattle.ticket.specs.declared.RuleBits.{RuleBits}
 use borrow.Author.Needs.{needs}
 use Rattle.ticket.proofs.rule_in.Statement.{statement}
 use Rattle.ticket.proofs.rule_in.Tie as tie
