@@ -4,11 +4,11 @@ use borrow.Author.Needs.{needs}
 use Prim.Native.Nat.{_+_, _*_, _-_, _≤_}
 use mathlib.Core.Path.{_≡_, refl, _∙_}
 use lib.ListN.{length, length-set}
 use Rattle.network.specs.Stored.{tailOf, flowOf, Kept, set-kept, edge-small}
 use Rattle.network.specs.Index.{listing-fits}
-use Rattle.network.specs.Solve.{Carries, carries-none, carries-small, event-small, carries-share}
-use Rattle.network.proofs.start.Statement.{statement}
-use Rattle.network.proofs.start.Tie as tie
+use Rattle.flow.specs.Solve.{Carries, carries-none, carries-small, event-small, carries-share}
+use Rattle.flow.proofs.start.Statement.{statement}
+use Rattle.flow.proofs.start.Tie as tie
 
 abbrev Inv-loop : tie.InvT-loop
 Inv-loop net₀ m n pot weight supply₀ demand₀ e₀ net supply demand e =
