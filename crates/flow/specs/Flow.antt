@@ -68,12 +68,12 @@ module _ (net : List ℕ) (m e x : ℕ) (le : e < m) (size : 4 * m ≤ length ne
       rw (kept-stored 0 m net (set net (4 * e + 3) x) (set-kept net m e x le size))
       (outflow-raise (stored 0 m net) e d _ _ r v, inflow-raise (stored 0 m net) e d _ _ r v)
 
-  -- and one unit less
-  pub fall : flowOf net e ≡ x + 1 → (v : ℕ)
-      → (outOf net m v ≡ outOf (set net (4 * e + 3) x) m v + whenEq (tailOf net e) v 1)
-      × (into net m v ≡ into (set net (4 * e + 3) x) m v + whenEq (headOf net e) v 1)
-  fall q v =
-      let r : Raised (stored 0 m net) e 1 (flowOf (set net (4 * e + 3) x)) (flowOf net) =
-      record { edge = le; more = q ∙ ap (λ y. y + 1) (sym (set-flow net m e x le size)); others = λ k l ne. sym (set-flow-other net m e x le size k ne) } in
+  -- and d units less
+  pub fall : (d : ℕ) → flowOf net e ≡ x + d → (v : ℕ)
+      → (outOf net m v ≡ outOf (set net (4 * e + 3) x) m v + whenEq (tailOf net e) v d)
+      × (into net m v ≡ into (set net (4 * e + 3) x) m v + whenEq (headOf net e) v d)
+  fall d q v =
+      let r : Raised (stored 0 m net) e d (flowOf (set net (4 * e + 3) x)) (flowOf net) =
+      record { edge = le; more = q ∙ ap (λ y. y + d) (sym (set-flow net m e x le size)); others = λ k l ne. sym (set-flow-other net m e x le size k ne) } in
       rw (kept-stored 0 m net (set net (4 * e + 3) x) (set-kept net m e x le size))
-      (outflow-raise (stored 0 m net) e 1 _ _ r v, inflow-raise (stored 0 m net) e 1 _ _ r v)
+      (outflow-raise (stored 0 m net) e d _ _ r v, inflow-raise (stored 0 m net) e d _ _ r v)

@@ -8,6 +8,8 @@ pub mod Flow
 pub mod Duality
 pub mod Least
 pub mod Lattice
+pub mod Limit
+pub mod Way
 pub mod Push
 pub mod Widen
 pub mod Solve

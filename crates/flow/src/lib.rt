@@ -5,32 +5,96 @@
 ghost use mathlib.Core.Path.{_≡_};
 ghost use Prim.Native.Nat.{ℕ, _+_, _*_, _-_, _<_, _≤_};
 ghost use lib.ListN.{length};
-ghost use Rattle.network.specs.Stored.{at, flowOf, Kept, Network, Potential};
+ghost use Rattle.network.specs.Stored.{at, tailOf, costOf, flowOf, Network, Potential};
 ghost use Rattle.network.specs.Index.{Index};
 ghost use Rattle.network.specs.Tree.{Linked};
 ghost use Rattle.network.specs.Grow.{Flowless};
+ghost use Rattle.flow.specs.Limit.{EdgeFits};
 ghost use Rattle.flow.specs.Widen.{Height};
-ghost use Rattle.flow.specs.Push.{Walkable, Walked, Small, Pushed, Augmented};
-ghost use Rattle.flow.specs.Solve.{Spans, Weights, Event, Carries, Sent, Solved};
+ghost use Rattle.flow.specs.Way.{Ends, Across, Bound, Roomy};
+ghost use Rattle.flow.specs.Push.{Walkable, Walked, Small, Sends, Ready, Augmented};
+ghost use Rattle.flow.specs.Solve.{Spans, Weights, Event, Share, Wanted, Carried, Started, Sent, Lowered, Solved};
 use network::BIAS;
 
-// Walk edge e from node cur to its other end, one unit of flow with it.
-fn walk(net: &mut [u32], e: usize, cur: usize) -> usize
-    requires { ⌜ Walkable (now net) e cur ⌝ }
-    ensures { λ r. ⌜ Walked (now (net .entry)) (now (net .exit)) e cur r ⌝ }
+// The other end of an edge from a to b, seen from cur.
+fn other(a: usize, b: usize, cur: usize) -> usize
+    ensures { λ r. ⌜ (a ≡ cur → r ≡ b) × ((a ≡ cur → ⊥) → r ≡ a) ⌝ }
 {
-    let a = net[4 * e] as usize;
-    let b = net[4 * e + 1] as usize;
-    let f = net[4 * e + 3];
-    if a == cur {
-        net[4 * e + 3] = f + 1;
-        return b;
-    }
-    net[4 * e + 3] = f - 1;
-    a
+    if a == cur { b } else { a }
 }
 
-// Push one unit of flow from start along the links to root.
+// The flow x of an edge with tail a after f units went over it from cur.
+fn moved(x: u32, a: usize, cur: usize, f: u32) -> u32
+    requires { ⌜ (x < 1000) × (f ≤ 3) × ((a ≡ cur → ⊥) → f ≤ x) ⌝ }
+    ensures { λ r. ⌜ (a ≡ cur → r ≡ x + f) × ((a ≡ cur → ⊥) → r ≡ x - f) ⌝ }
+{
+    if a == cur { x + f } else { x - f }
+}
+
+// Walk edge e from node cur to its other end, f units of flow with it.
+fn walk(net: &mut [u32], e: usize, cur: usize, f: u32) -> usize
+    requires { ⌜ Walkable (now net) e cur f ⌝ }
+    ensures { λ r. ⌜ Walked (now (net .entry)) (now (net .exit)) e cur f r ⌝ }
+{
+    let p = 4 * e;
+    let a = net[p] as usize;
+    let b = net[p + 1] as usize;
+    net[p + 3] = moved(net[p + 3], a, cur, f);
+    other(a, b, cur)
+}
+
+// The other end of edge e, seen from cur.
+fn across(net: &[u32], e: usize, cur: usize) -> usize
+    requires { ⌜ Ends (now net) e ⌝ }
+    ensures { λ r. ⌜ Across (now (net .entry)) e cur r ⌝ }
+{
+    let p = 4 * e;
+    let a = net[p] as usize;
+    let b = net[p + 1] as usize;
+    other(a, b, cur)
+}
+
+// How much of f units edge e has room for, from cur: an edge that is walked back gives up its flow.
+fn bound(net: &[u32], e: usize, cur: usize, f: u32) -> u32
+    requires { ⌜ Ends (now net) e ⌝ }
+    ensures { λ r. ⌜ Bound (now (net .entry)) e cur f r ⌝ }
+{
+    let p = 4 * e;
+    let a = net[p] as usize;
+    if a == cur {
+        f
+    } else {
+        network::least(f, net[p + 3])
+    }
+}
+
+// How much of want units the links from start to root have room for.
+fn room(
+    net: &[u32],
+    m: usize,
+    nodes: usize,
+    stamp: &[usize; 81],
+    via: &[usize; 81],
+    root: usize,
+    start: usize,
+    want: u32,
+) -> u32
+    requires { ⌜ Network (now net) m nodes ⌝ }
+    requires { ⌜ Linked (now net) m nodes (now stamp) (now via) root ⌝ }
+    requires { ⌜ (start < nodes) × (0 < at (now stamp) start) × (0 < want) ⌝ }
+    ensures { λ r. ⌜ Roomy (now (net .entry)) (now (via .entry)) root start want r ⌝ }
+{
+    let mut f = want;
+    let mut cur = start;
+    while cur != root {
+        let e = via[cur];
+        f = bound(net, e, cur, f);
+        cur = across(net, e, cur);
+    }
+    f
+}
+
+// Push as much of want units from start along the links to root as they have room for. The result is how much.
 fn push(
     net: &mut [u32],
     m: usize,
@@ -39,21 +103,24 @@ fn push(
     via: &[usize; 81],
     root: usize,
     start: usize,
-)
+    want: u32,
+) -> u32
     requires { ⌜ Network (now net) m nodes ⌝ }
     requires { ⌜ Linked (now net) m nodes (now stamp) (now via) root ⌝ }
     requires { ⌜ Small (now net) m ⌝ }
-    requires { ⌜ (start < nodes) × (0 < at (now stamp) start) ⌝ }
-    ensures { λ _. ⌜ Pushed (now (net .entry)) (now (net .exit)) m nodes (now (stamp .entry)) (now (via .entry)) root start root ⌝ }
+    requires { ⌜ (start < nodes) × (0 < at (now stamp) start) × (0 < want) × (want ≤ 3) ⌝ }
+    ensures { λ r. ⌜ Sends (now (net .entry)) (now (net .exit)) m nodes (now (stamp .entry)) (now (via .entry)) root start want r ⌝ }
 {
+    let f = room(net, m, nodes, stamp, via, root, start, want);
     let mut cur = start;
     while cur != root {
         let e = via[cur];
-        cur = walk(net, e, cur);
+        cur = walk(net, e, cur, f);
     }
+    f
 }
 
-// Push one unit of flow to root from a node with a goal above 0, along edges with no slack. The result is that node.
+// Push flow to root, at most want units of it, from a node with some supply, along edges with no slack. The result is how much; the supply falls by it.
 fn augment(
     net: &mut [u32],
     m: usize,
@@ -64,22 +131,37 @@ fn augment(
     stamp: &mut [usize; 81],
     via: &mut [usize; 81],
     root: usize,
-    goal: &[u32; 81],
-) -> usize
-    requires { ⌜ Network (now net) m nodes ⌝ }
-    requires { ⌜ Potential (now net) m (now pot) ⌝ }
-    requires { ⌜ Index (now net) m (2 * nodes - 2) 0 (now tails) ⌝ }
-    requires { ⌜ Index (now net) m (2 * nodes - 2) 1 (now heads) ⌝ }
-    requires { ⌜ (length (now stamp) ≡ 81) × (length (now via) ≡ 81) × (root < nodes) ⌝ }
-    requires { ⌜ Small (now net) m ⌝ }
-    requires { ⌜ ((v : ℕ) × (v < nodes) × (0 < at (now goal) v)) ⌝ }
-    ensures { λ r. ⌜ Augmented (now (net .entry)) (now (net .exit)) m nodes (now (pot .exit)) root r ⌝ }
-    ensures { λ r. ⌜ (r < nodes) × (0 < at (now (goal .entry)) r) ⌝ }
+    supply: &mut [u32; 81],
+    want: u32,
+) -> u32
+    requires { ⌜ Ready (now net) m nodes (now tails) (now heads) (now pot) root (now supply) want ⌝ }
+    requires { ⌜ (length (now stamp) ≡ 81) × (length (now via) ≡ 81) ⌝ }
+    ensures { λ r. ⌜ Augmented (now (net .entry)) (now (net .exit)) m nodes (now (pot .exit)) root (now (supply .entry)) (now (supply .exit)) want r ⌝ }
     ensures { λ _. ⌜ (length (now (stamp .exit)) ≡ 81) × (length (now (via .exit)) ≡ 81) ⌝ }
 {
-    let v = network::reach(net, m, nodes, tails, heads, pot, stamp, via, root, goal);
-    push(net, m, nodes, stamp, via, root, v);
-    v
+    let v = network::reach(net, m, nodes, tails, heads, pot, stamp, via, root, supply);
+    let f = push(
+        net,
+        m,
+        nodes,
+        stamp,
+        via,
+        root,
+        v,
+        network::least(supply[v], want),
+    );
+    supply[v] = supply[v] - f;
+    f
+}
+
+// What edge e allows its head: the time of its tail plus its cost.
+fn limit(net: &[u32], pot: &[u32; 81], e: usize) -> u32
+    requires { ⌜ EdgeFits (now net) (now pot) e ⌝ }
+    ensures { λ r. ⌜ r ≡ at (now (pot .entry)) (tailOf (now (net .entry)) e) + costOf (now (net .entry)) e ⌝ }
+{
+    let p = 4 * e;
+    let a = net[p] as usize;
+    pot[a] + net[p + 2]
 }
 
 // The highest that node v can be while the other nodes stay.
@@ -91,13 +173,11 @@ fn height(net: &[u32], m: usize, nodes: usize, heads: &[u32; 400], pot: &[u32; 8
     ensures { λ r. ⌜ Height (now (net .entry)) m (now (pot .entry)) v r ⌝ }
 {
     let base = 2 * nodes - 2;
-    let up = 2 * v - 1;
-    let mut best = pot[0] + net[4 * up + 2];
+    let mut best = limit(net, pot, 2 * v - 1);
     let mut x = heads[v] as usize;
     while 0 < x {
         let e = x - 1;
-        let a = net[4 * e] as usize;
-        best = network::least(best, pot[a] + net[4 * e + 2]);
+        best = network::least(best, limit(net, pot, e));
         x = heads[81 + (e - base)] as usize;
     }
     best - BIAS
@@ -128,43 +208,62 @@ fn event(b: usize, n: usize) -> usize
     if n < b { b - n } else { 0 }
 }
 
-// What an edge from time x with its cost to time y can carry, of a supply and a demand.
-fn share(s: u32, d: u32, x: u32, y: u32) -> u32
-    ensures { λ r. ⌜ (r ≤ s) × (r ≤ d) × (0 < r → y ≡ x) ⌝ }
+// What edge e can carry, of a supply and a demand: nothing, if it has slack.
+fn share(net: &[u32], pot: &[u32; 81], e: usize, s: u32, d: u32) -> u32
+    requires { ⌜ EdgeFits (now net) (now pot) e ⌝ }
+    ensures { λ r. ⌜ Share (now (net .entry)) (now (pot .entry)) e s d r ⌝ }
 {
-    if x == y { network::least(s, d) } else { 0 }
+    let b = net[4 * e + 1] as usize;
+    if limit(net, pot, e) == pot[b] + BIAS {
+        network::least(s, d)
+    } else {
+        0
+    }
 }
 
-// What lo nodes can still send, and hi nodes still want, by event.
-struct Wants {
-    supply: [u32; 81],
-    demand: [u32; 81],
+// Let edge e carry as much as its tail and the event of its head want, if it has no slack.
+fn carry(
+    net: &mut [u32],
+    pot: &[u32; 81],
+    n: usize,
+    e: usize,
+    supply: &mut [u32; 81],
+    demand: &mut [u32; 81],
+)
+    requires { ⌜ EdgeFits (now net) (now pot) e ⌝ }
+    requires { ⌜ Wanted (now net) e (now supply) (now demand) ⌝ }
+    ensures { λ _. ⌜ Carried (now (net .entry)) (now (net .exit)) (now (pot .entry)) n e (now (supply .entry)) (now (supply .exit)) (now (demand .entry)) (now (demand .exit)) ⌝ }
+{
+    let p = 4 * e;
+    let a = net[p] as usize;
+    let j = event(net[p + 1] as usize, n);
+    let f = share(net, pot, e, supply[a], demand[j]);
+    net[p + 3] = net[p + 3] + f;
+    supply[a] = supply[a] - f;
+    demand[j] = demand[j] - f;
 }
 
 // A first flow: over each edge with no slack from a lo node to a hi node, as much as both ends want.
-fn start(net: &mut [u32], m: usize, n: usize, pot: &[u32; 81], weight: &[u32; 81]) -> Wants
+fn start(
+    net: &mut [u32],
+    m: usize,
+    n: usize,
+    pot: &[u32; 81],
+    supply: &mut [u32; 81],
+    demand: &mut [u32; 81],
+)
     requires { ⌜ Flowless (now net) m (2 * n + 1) (now pot) ⌝ }
-    requires { ⌜ Weights n (now weight) ⌝ }
-    ensures { λ r. ⌜ Carries (now (net .exit)) m n (now (pot .entry)) (now (weight .entry)) (r .supply) (r .demand) ⌝ }
-    ensures { λ _. ⌜ (length (now (net .exit)) ≡ length (now (net .entry))) × Kept (now (net .entry)) (now (net .exit)) m ⌝ }
+    requires { ⌜ Weights n (now supply) × (now demand ≡ now supply) ⌝ }
+    ensures { λ _. ⌜ Started (now (net .entry)) (now (net .exit)) m n (now (pot .entry)) (now (supply .entry)) (now (supply .exit)) (now (demand .exit)) ⌝ }
 {
-    let mut supply = *weight;
-    let mut demand = *weight;
     let mut e = 4 * n;
     while e < m {
-        let a = net[4 * e] as usize;
-        let b = net[4 * e + 1] as usize;
-        let j = event(b, n);
-        let f = share(supply[a], demand[j], pot[a] + net[4 * e + 2], pot[b] + BIAS);
-        net[4 * e + 3] = net[4 * e + 3] + f;
-        supply[a] = supply[a] - f;
-        demand[j] = demand[j] - f;
+        carry(net, pot, n, e, supply, demand);
         e += 1;
     }
-    Wants { supply, demand }
 }
 
-// Send each event's weight to its hi node from the lo nodes: a first flow, then a unit at a time.
+// Send each event's weight to its hi node from the lo nodes: a first flow, then by searches.
 fn send(
     net: &mut [u32],
     m: usize,
@@ -172,32 +271,73 @@ fn send(
     tails: &[u32; 400],
     heads: &[u32; 400],
     pot: &mut [u32; 81],
-    stamp: &mut [usize; 81],
-    via: &mut [usize; 81],
     weight: &[u32; 81],
 )
     requires { ⌜ Flowless (now net) m (2 * n + 1) (now pot) ⌝ }
     requires { ⌜ Index (now net) m (2 * (2 * n + 1) - 2) 0 (now tails) ⌝ }
     requires { ⌜ Index (now net) m (2 * (2 * n + 1) - 2) 1 (now heads) ⌝ }
-    requires { ⌜ (length (now stamp) ≡ 81) × (length (now via) ≡ 81) ⌝ }
     requires { ⌜ Weights n (now weight) ⌝ }
     ensures { λ _. ⌜ Sent (now (net .entry)) (now (net .exit)) m n (now (pot .exit)) (now (weight .entry)) ⌝ }
-    ensures { λ _. ⌜ (length (now (stamp .exit)) ≡ 81) × (length (now (via .exit)) ≡ 81) ⌝ }
 {
     let nodes = 2 * n + 1;
-    let wants = start(net, m, n, pot, weight);
-    let mut supply = wants.supply;
-    let mut demand = wants.demand;
+    let mut supply = *weight;
+    let mut demand = *weight;
+    start(net, m, n, pot, &mut supply, &mut demand);
+    let mut stamp = [0usize; 81];
+    let mut via = [0usize; 81];
     let mut i = 1;
     while i <= n {
         if 0 < demand[i] {
-            let v = augment(net, m, nodes, tails, heads, pot, stamp, via, n + i, &supply);
-            supply[v] = supply[v] - 1;
-            demand[i] = demand[i] - 1;
+            let f = augment(
+                net,
+                m,
+                nodes,
+                tails,
+                heads,
+                pot,
+                &mut stamp,
+                &mut via,
+                n + i,
+                &mut supply,
+                demand[i],
+            );
+            demand[i] = demand[i] - f;
         } else {
             i += 1;
         }
     }
+}
+
+// Reach every node from the origin: the potential is then the least that the flow allows.
+fn lower(
+    net: &[u32],
+    m: usize,
+    nodes: usize,
+    tails: &[u32; 400],
+    heads: &[u32; 400],
+    pot: &mut [u32; 81],
+)
+    requires { ⌜ Network (now net) m nodes ⌝ }
+    requires { ⌜ Potential (now net) m (now pot) ⌝ }
+    requires { ⌜ Index (now net) m (2 * nodes - 2) 0 (now tails) ⌝ }
+    requires { ⌜ Index (now net) m (2 * nodes - 2) 1 (now heads) ⌝ }
+    ensures { λ _. ⌜ Lowered (now (net .entry)) m nodes (now (pot .exit)) ⌝ }
+{
+    let mut stamp = [0usize; 81];
+    let mut via = [0usize; 81];
+    let none = [0u32; 81];
+    network::reach(
+        net,
+        m,
+        nodes,
+        tails,
+        heads,
+        pot,
+        &mut stamp,
+        &mut via,
+        0,
+        &none,
+    );
 }
 
 // From a potential of the network with no flow to the widest potential that is least. Event i of 1 to n has the nodes i and n + i.
@@ -214,20 +354,6 @@ pub fn solve(net: &mut [u32], m: usize, n: usize, pot: &mut [u32; 81], weight: &
     network::list_edges(net, m, base, 0, &mut tails);
     network::list_edges(net, m, base, 1, &mut heads);
     widen(net, m, n, &heads, pot);
-    let mut stamp = [0usize; 81];
-    let mut via = [0usize; 81];
-    send(net, m, n, &tails, &heads, pot, &mut stamp, &mut via, weight);
-    let none = [0u32; 81];
-    network::reach(
-        net,
-        m,
-        nodes,
-        &tails,
-        &heads,
-        pot,
-        &mut stamp,
-        &mut via,
-        0,
-        &none,
-    );
+    send(net, m, n, &tails, &heads, pot, weight);
+    lower(net, m, nodes, &tails, &heads, pot);
 }

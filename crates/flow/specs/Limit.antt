@@ -1,0 +1,25 @@
+-- The numbers of an edge and the times of its ends are small enough to compute with. Assumes nothing.
+use Prim.Native.Nat.{ℕ, _+_, _*_, _≤_, _<_}
+use mathlib.Core.List.{List}
+use native.Mathlib.Omega.{arith}
+use lib.ListN.{length}
+use Rattle.network.specs.Stored.{at, tailOf, headOf, costOf, Network, Potential, pot-bound}
+
+pub record EdgeFits (net pot : List ℕ) (e : ℕ) : Type 0 where
+  pub inside : 4 * e + 3 < length net
+  pub tail : tailOf net e < 81
+  pub head : headOf net e < 81
+  pub cost : costOf net e ≤ 2000000
+  pub from : at pot (tailOf net e) ≤ 1000000
+  pub to : at pot (headOf net e) ≤ 1000000
+
+pub edge-fits : {net : List ℕ} {m nodes : ℕ} {pot : List ℕ} → Network net m nodes → Potential net m pot → (e : ℕ) → e < m → EdgeFits net pot e
+edge-fits {net} {m} {nodes} {pot} N P e le =
+    record {
+      inside = omega (arith, N .size);
+      tail = omega (arith, N .tails e le, N .few);
+      head = omega (arith, N .heads e le, N .few);
+      cost = N .costs e le;
+      from = pot-bound net m nodes pot N P (tailOf net e) (N .tails e le);
+      to = pot-bound net m nodes pot N P (headOf net e) (N .heads e le);
+    }
