@@ -4,7 +4,7 @@
 
 ghost use mathlib.Core.Path.{_≡_};
 ghost use Prim.Native.Nat.{ℕ, _+_, _*_, _-_, _<_, _≤_};
-ghost use lib.ListN.{length};
+ghost use lib.ListN.{length, set};
 ghost use Rattle.network.specs.Stored.{at, tailOf, costOf, flowOf, Network, Potential};
 ghost use Rattle.network.specs.Index.{Index};
 ghost use Rattle.network.specs.Tree.{Linked};
@@ -12,8 +12,8 @@ ghost use Rattle.network.specs.Grow.{Flowless};
 ghost use Rattle.flow.specs.Limit.{EdgeFits};
 ghost use Rattle.flow.specs.Widen.{Height};
 ghost use Rattle.flow.specs.Way.{Ends, Across, Bound, Roomy};
-ghost use Rattle.flow.specs.Push.{Walkable, Walked, Small, Sends, Ready, Augmented};
-ghost use Rattle.flow.specs.Solve.{Spans, Weights, Event, Share, Wanted, Carried, Started, Sent, Lowered, Solved};
+ghost use Rattle.flow.specs.Push.{Walkable, Walked, Loaded, Sends, Ready, Augmented};
+ghost use Rattle.flow.specs.Solve.{Spans, Weights, Event, Share, Wanted, Carries, Carried, Started, Sent, Lowered, Solved};
 use network::BIAS;
 
 // The other end of an edge from a to b, seen from cur.
@@ -68,6 +68,14 @@ fn bound(net: &[u32], e: usize, cur: usize, f: u32) -> u32
     }
 }
 
+// Take f units off what is left at v.
+fn take(left: &mut [u32; 81], v: usize, f: u32)
+    requires { ⌜ (length (now left) ≡ 81) × (v < 81) × (f ≤ at (now left) v) ⌝ }
+    ensures { λ _. ⌜ now (left .exit) ≡ set (now (left .entry)) v (at (now (left .entry)) v - f) ⌝ }
+{
+    left[v] = left[v] - f;
+}
+
 // How much of want units the links from start to root have room for.
 fn room(
     net: &[u32],
@@ -94,7 +102,7 @@ fn room(
     f
 }
 
-// Push as much of want units from start along the links to root as they have room for. The result is how much.
+// Push flow from start along the links to root: of the supply of start and of want as much as the links have room for. The result is how much.
 fn push(
     net: &mut [u32],
     m: usize,
@@ -103,20 +111,20 @@ fn push(
     via: &[usize; 81],
     root: usize,
     start: usize,
+    supply: &mut [u32; 81],
     want: u32,
 ) -> u32
-    requires { ⌜ Network (now net) m nodes ⌝ }
-    requires { ⌜ Linked (now net) m nodes (now stamp) (now via) root ⌝ }
-    requires { ⌜ Small (now net) m ⌝ }
-    requires { ⌜ (start < nodes) × (0 < at (now stamp) start) × (0 < want) × (want ≤ 3) ⌝ }
-    ensures { λ r. ⌜ Sends (now (net .entry)) (now (net .exit)) m nodes (now (stamp .entry)) (now (via .entry)) root start want r ⌝ }
+    requires { ⌜ Loaded (now net) m nodes (now stamp) (now via) root start (now supply) want ⌝ }
+    ensures { λ r. ⌜ Sends (now (net .entry)) (now (net .exit)) m nodes (now (stamp .entry)) (now (via .entry)) root start (now (supply .entry)) (now (supply .exit)) want r ⌝ }
 {
-    let f = room(net, m, nodes, stamp, via, root, start, want);
+    let most = network::least(supply[start], want);
+    let f = room(net, m, nodes, stamp, via, root, start, most);
     let mut cur = start;
     while cur != root {
         let e = via[cur];
         cur = walk(net, e, cur, f);
     }
+    take(supply, start, f);
     f
 }
 
@@ -140,18 +148,7 @@ fn augment(
     ensures { λ _. ⌜ (length (now (stamp .exit)) ≡ 81) × (length (now (via .exit)) ≡ 81) ⌝ }
 {
     let v = network::reach(net, m, nodes, tails, heads, pot, stamp, via, root, supply);
-    let f = push(
-        net,
-        m,
-        nodes,
-        stamp,
-        via,
-        root,
-        v,
-        network::least(supply[v], want),
-    );
-    supply[v] = supply[v] - f;
-    f
+    push(net, m, nodes, stamp, via, root, v, supply, want)
 }
 
 // What edge e allows its head: the time of its tail plus its cost.
@@ -239,8 +236,8 @@ fn carry(
     let j = event(net[p + 1] as usize, n);
     let f = share(net, pot, e, supply[a], demand[j]);
     net[p + 3] = net[p + 3] + f;
-    supply[a] = supply[a] - f;
-    demand[j] = demand[j] - f;
+    take(supply, a, f);
+    take(demand, j, f);
 }
 
 // A first flow: over each edge with no slack from a lo node to a hi node, as much as both ends want.
@@ -263,6 +260,51 @@ fn start(
     }
 }
 
+// Send what is still wanted, event by event, by searches.
+fn serve(
+    net: &mut [u32],
+    m: usize,
+    n: usize,
+    tails: &[u32; 400],
+    heads: &[u32; 400],
+    pot: &mut [u32; 81],
+    weight: &[u32; 81],
+    supply: &mut [u32; 81],
+    demand: &mut [u32; 81],
+)
+    requires { ⌜ Carries (now net) m n (now pot) (now weight) (now supply) (now demand) ⌝ }
+    requires { ⌜ Index (now net) m (2 * (2 * n + 1) - 2) 0 (now tails) ⌝ }
+    requires { ⌜ Index (now net) m (2 * (2 * n + 1) - 2) 1 (now heads) ⌝ }
+    requires { ⌜ Weights n (now weight) ⌝ }
+    ensures { λ _. ⌜ Sent (now (net .entry)) (now (net .exit)) m n (now (pot .exit)) (now (weight .entry)) ⌝ }
+{
+    let nodes = 2 * n + 1;
+    let mut stamp = [0usize; 81];
+    let mut via = [0usize; 81];
+    let mut i = 1;
+    while i <= n {
+        let want = demand[i];
+        if 0 < want {
+            let f = augment(
+                net,
+                m,
+                nodes,
+                tails,
+                heads,
+                pot,
+                &mut stamp,
+                &mut via,
+                n + i,
+                supply,
+                want,
+            );
+            take(demand, i, f);
+        } else {
+            i += 1;
+        }
+    }
+}
+
 // Send each event's weight to its hi node from the lo nodes: a first flow, then by searches.
 fn send(
     net: &mut [u32],
@@ -279,33 +321,20 @@ fn send(
     requires { ⌜ Weights n (now weight) ⌝ }
     ensures { λ _. ⌜ Sent (now (net .entry)) (now (net .exit)) m n (now (pot .exit)) (now (weight .entry)) ⌝ }
 {
-    let nodes = 2 * n + 1;
     let mut supply = *weight;
     let mut demand = *weight;
     start(net, m, n, pot, &mut supply, &mut demand);
-    let mut stamp = [0usize; 81];
-    let mut via = [0usize; 81];
-    let mut i = 1;
-    while i <= n {
-        if 0 < demand[i] {
-            let f = augment(
-                net,
-                m,
-                nodes,
-                tails,
-                heads,
-                pot,
-                &mut stamp,
-                &mut via,
-                n + i,
-                &mut supply,
-                demand[i],
-            );
-            demand[i] = demand[i] - f;
-        } else {
-            i += 1;
-        }
-    }
+    serve(
+        net,
+        m,
+        n,
+        tails,
+        heads,
+        pot,
+        weight,
+        &mut supply,
+        &mut demand,
+    );
 }
 
 // Reach every node from the origin: the potential is then the least that the flow allows.
