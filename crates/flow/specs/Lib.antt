@@ -1,7 +1,8 @@
--- What crate flow rests on. To believe the contract of `solve` read Width (widest, and least of the widest) and in Solve the records Weights, Spans and `Solved`;
--- Flow and the records of Push and Widen are what the functions on the way promise; the rest are steps of the proofs.
+-- What crate flow rests on. To believe the contract of `solve` read Width (what widest and least mean) and in Solve the records Weights, `Solved` and the type Spans;
+-- the records of Flow, Limit, Way, Push and Widen are what the functions on the way ask and promise, the rest are steps of the proofs.
 -- Duality .certified-widest: a balanced flow over edges with no slack proves a potential widest. Least .certified-least: a search from the origin proves it least.
--- Lattice: the lower of two widest potentials is widest. Duality .scaled, Least .scaled-least: a finer grid of times wins nothing.
+-- Lattice .lower-widest: the lower of two widest potentials is widest. Duality .scaled, Least .scaled-least: a finer grid of times wins nothing.
+-- Widen .raised-potential, Push .augmented, Solve .carries-share, .carries-sent: each step keeps a potential that fits its flow. Solve .solved: the end.
 pub mod Sum
 pub mod Width
 pub mod Flow

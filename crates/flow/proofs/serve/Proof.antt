@@ -38,7 +38,7 @@ augment-requires : tie.Need-augment-requires Inv-loop μ-loop
 augment-requires c κs =
     let p = c .before .before .before .before .before .before .before .before .before .before .pre in
     let h = c .before .before .before .before .before .before .before .before .loop .inv in
-    (sending-ready (h .2) (p .1 .1 .1) (p .1 .0) (p .1 .1 .0) (c .before .before .before .before .before .before .before .loop-test .taken) (c .before .before .before .before .before .if1 .taken), (h .0, h .1))
+    (sending-ready (h .2) (p .1 .1 .1) (p .1 .0) (p .1 .1 .0) (c .before .before .before .before .before .before .before .loop-test .taken) (omega (arith, c .before .before .before .before .before .if1 .taken)), (h .0, h .1))
 
 take-requires : tie.Need-take-requires Inv-loop μ-loop
 take-requires c κs =
