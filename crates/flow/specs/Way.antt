@@ -11,12 +11,6 @@ use Rattle.network.specs.Stored.{at, tailOf, headOf, flowOf, Network}
 use Rattle.network.specs.Tree.{Link, Linked}
 use Rattle.flow.specs.Sum.{whenEq, when-is, whenEq-other}
 
--- edge e is stored, and its ends are small
-pub record Ends (net : List ℕ) (e : ℕ) : Type 0 where
-  pub inside : 4 * e + 3 < length net
-  pub tail : tailOf net e < 81
-  pub head : headOf net e < 81
-
 -- r is the other end of edge e, seen from cur
 pub record Across (net : List ℕ) (e cur r : ℕ) : Type 0 where
   pub forth : tailOf net e ≡ cur → r ≡ headOf net e
@@ -96,13 +90,14 @@ module _ {net : List ℕ} {m nodes : ℕ} {stamp via : List ℕ} {root start wan
   link : Link net m stamp cur (at via cur)
   link = linked cur (R .inside) ne (R .reached)
 
-  pub roaming-ends : Ends net (at via cur)
-  roaming-ends =
-      record {
-        inside = omega (arith, N .size, link .edge);
-        tail = omega (arith, N .tails (at via cur) (link .edge), N .few);
-        head = omega (arith, N .heads (at via cur) (link .edge), N .few);
-      }
+  -- its link is stored, and has small ends
+  pub roaming-link : (at via cur < 479) × (4 * at via cur + 3 < length net) × (tailOf net (at via cur) < 81) × (headOf net (at via cur) < 81)
+  roaming-link = (
+    omega (arith, link .edge, N .rules, N .few),
+    omega (arith, N .size, link .edge),
+    omega (arith, N .tails (at via cur) (link .edge), N .few),
+    omega (arith, N .heads (at via cur) (link .edge), N .few),
+  )
 
   pub roaming-more : {f' r : ℕ} → Bound net (at via cur) cur f f' → Across net (at via cur) cur r
       → Roaming net nodes stamp via start want f' r × (at stamp r < at stamp cur)

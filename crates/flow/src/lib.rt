@@ -3,7 +3,7 @@
 // Rests on crate network, which stores the edges and searches among them.
 
 ghost use mathlib.Core.Path.{_≡_};
-ghost use Prim.Native.Nat.{ℕ, _+_, _*_, _-_, _<_, _≤_};
+ghost use Prim.Native.Nat.{ℕ, _+_, _*_, _-_, _<_, _≤_, min};
 ghost use lib.ListN.{length, set};
 ghost use Rattle.network.specs.Stored.{at, tailOf, costOf, flowOf, Network, Potential};
 ghost use Rattle.network.specs.Index.{Index};
@@ -11,7 +11,7 @@ ghost use Rattle.network.specs.Tree.{Linked};
 ghost use Rattle.network.specs.Grow.{Flowless};
 ghost use Rattle.flow.specs.Limit.{EdgeFits};
 ghost use Rattle.flow.specs.Widen.{Height};
-ghost use Rattle.flow.specs.Way.{Ends, Across, Bound, Roomy};
+ghost use Rattle.flow.specs.Way.{Roomy};
 ghost use Rattle.flow.specs.Push.{Walkable, Walked, Loaded, Sends, Ready, Augmented};
 ghost use Rattle.flow.specs.Solve.{Spans, Weights, Event, Share, Wanted, Carries, Carried, Started, Sent, Lowered, Solved};
 use network::BIAS;
@@ -43,29 +43,11 @@ fn walk(net: &mut [u32], e: usize, cur: usize, f: u32) -> usize
     other(a, b, cur)
 }
 
-// The other end of edge e, seen from cur.
-fn across(net: &[u32], e: usize, cur: usize) -> usize
-    requires { ⌜ Ends (now net) e ⌝ }
-    ensures { λ r. ⌜ Across (now (net .entry)) e cur r ⌝ }
+// How much of f units an edge with tail a and flow x has room for, from cur: an edge that is walked back gives up its flow.
+fn spare(x: u32, a: usize, cur: usize, f: u32) -> u32
+    ensures { λ r. ⌜ (a ≡ cur → r ≡ f) × ((a ≡ cur → ⊥) → r ≡ min f x) ⌝ }
 {
-    let p = 4 * e;
-    let a = net[p] as usize;
-    let b = net[p + 1] as usize;
-    other(a, b, cur)
-}
-
-// How much of f units edge e has room for, from cur: an edge that is walked back gives up its flow.
-fn bound(net: &[u32], e: usize, cur: usize, f: u32) -> u32
-    requires { ⌜ Ends (now net) e ⌝ }
-    ensures { λ r. ⌜ Bound (now (net .entry)) e cur f r ⌝ }
-{
-    let p = 4 * e;
-    let a = net[p] as usize;
-    if a == cur {
-        f
-    } else {
-        network::least(f, net[p + 3])
-    }
+    if a == cur { f } else { network::least(f, x) }
 }
 
 // Take f units off what is left at v.
@@ -95,9 +77,11 @@ fn room(
     let mut f = want;
     let mut cur = start;
     while cur != root {
-        let e = via[cur];
-        f = bound(net, e, cur, f);
-        cur = across(net, e, cur);
+        let p = 4 * via[cur];
+        let a = net[p] as usize;
+        let b = net[p + 1] as usize;
+        f = spare(net[p + 3], a, cur, f);
+        cur = other(a, b, cur);
     }
     f
 }
@@ -235,7 +219,8 @@ fn carry(
     let a = net[p] as usize;
     let j = event(net[p + 1] as usize, n);
     let f = share(net, pot, e, supply[a], demand[j]);
-    net[p + 3] = net[p + 3] + f;
+    let q = p + 3;
+    net[q] = net[q] + f;
     take(supply, a, f);
     take(demand, j, f);
 }
