@@ -1,4 +1,4 @@
--- The numbers of an edge and the times of its ends are small enough to compute with. Assumes nothing.
+-- An edge is stored, and its numbers and the times of its ends are small enough to compute with. Assumes nothing.
 use Prim.Native.Nat.{ℕ, _+_, _*_, _≤_, _<_}
 use mathlib.Core.List.{List}
 use native.Mathlib.Omega.{arith}
@@ -22,4 +22,31 @@ edge-fits {net} {m} {nodes} {pot} N P e le =
       cost = N .costs e le;
       from = pot-bound net m nodes pot N P (tailOf net e) (N .tails e le);
       to = pot-bound net m nodes pot N P (headOf net e) (N .heads e le);
+    }
+
+pub node-small : {net : List ℕ} {m nodes v : ℕ} → Network net m nodes → v < nodes → v < 81
+node-small N l = omega (arith, N .few)
+
+-- where edge e stands in the list, and its ends
+pub record Place (net : List ℕ) (e : ℕ) : Type 0 where
+  pub first : 4 * e < length net
+  pub second : 4 * e + 1 < length net
+  pub fourth : 4 * e + 3 < length net
+  pub near : 4 * e < 2000
+  pub near-second : 4 * e + 1 < 2000
+  pub near-fourth : 4 * e + 3 < 2000
+  pub tail : tailOf net e < 81
+  pub head : headOf net e < 81
+
+pub edge-place : {net : List ℕ} {m nodes : ℕ} → Network net m nodes → (e : ℕ) → e < m → Place net e
+edge-place {net} {m} {nodes} N e le =
+    record {
+      first = omega (arith, N .size);
+      second = omega (arith, N .size);
+      fourth = omega (arith, N .size);
+      near = omega (arith, N .rules, N .few);
+      near-second = omega (arith, N .rules, N .few);
+      near-fourth = omega (arith, N .rules, N .few);
+      tail = node-small N (N .tails e le);
+      head = node-small N (N .heads e le);
     }

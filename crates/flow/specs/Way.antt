@@ -6,10 +6,10 @@ use mathlib.Core.Logic.{by-cases}
 use native.Mathlib.Omega.{arith}
 use native.Mathlib.Decide.{ℕ-discrete, decLt}
 use borrow.Author.Count.{below-more}
-use lib.ListN.{length}
 use Rattle.network.specs.Stored.{at, tailOf, headOf, flowOf, Network}
 use Rattle.network.specs.Tree.{Link, Linked}
 use Rattle.flow.specs.Sum.{whenEq, when-is, whenEq-other}
+use Rattle.flow.specs.Limit.{Place, edge-place}
 
 -- r is the other end of edge e, seen from cur
 pub record Across (net : List ℕ) (e cur r : ℕ) : Type 0 where
@@ -90,14 +90,8 @@ module _ {net : List ℕ} {m nodes : ℕ} {stamp via : List ℕ} {root start wan
   link : Link net m stamp cur (at via cur)
   link = linked cur (R .inside) ne (R .reached)
 
-  -- its link is stored, and has small ends
-  pub roaming-link : (at via cur < 479) × (4 * at via cur + 3 < length net) × (tailOf net (at via cur) < 81) × (headOf net (at via cur) < 81)
-  roaming-link = (
-    omega (arith, link .edge, N .rules, N .few),
-    omega (arith, N .size, link .edge),
-    omega (arith, N .tails (at via cur) (link .edge), N .few),
-    omega (arith, N .heads (at via cur) (link .edge), N .few),
-  )
+  pub roaming-place : Place net (at via cur)
+  roaming-place = edge-place N (at via cur) (link .edge)
 
   pub roaming-more : {f' r : ℕ} → Bound net (at via cur) cur f f' → Across net (at via cur) cur r
       → Roaming net nodes stamp via start want f' r × (at stamp r < at stamp cur)

@@ -1,8 +1,10 @@
 -- `room` meets its contract. The invariant: the way from start to cur has room for f. The measure is the stamp of cur.
-use native.Mathlib.Omega.{arith}
-use borrow.Author.Needs.{needs}
+use borrow.Author.Needs.{needs, scaled-fits, fits-under}
+use lib.Dec.{lit<}
+use mir.Syntax.{w64}
 use lib.ListN.{getD}
-use Rattle.flow.specs.Way.{Roaming, roaming-none, roaming-link, roaming-more, roomy}
+use Rattle.flow.specs.Limit.{node-small}
+use Rattle.flow.specs.Way.{Roaming, roaming-none, roaming-place, roaming-more, roomy}
 use Rattle.flow.proofs.room.Statement.{statement}
 use Rattle.flow.proofs.room.Tie as tie
 
@@ -18,65 +20,43 @@ loop-holds c =
     roaming-none (s .0) (s .1) (s .2)
 
 mul-p : tie.Need-mul-p Inv-loop μ-loop
-mul-p c = omega (arith, c .before .loop .inv .inside, c .before .before .before .pre .0 .few)
+mul-p c = scaled-fits _ 81 8 (node-small (c .before .before .before .pre .0) (c .before .loop .inv .inside)) (lit< tt)
 
 element-copy-out-p : tie.Need-element-copy-out-p Inv-loop μ-loop
-element-copy-out-p c = omega (arith, c .before .loop .inv .inside, c .before .before .before .pre .0 .few)
+element-copy-out-p c = node-small (c .before .before .before .pre .0) (c .before .loop .inv .inside)
 
 mul-p-2 : tie.Need-mul-p-2 Inv-loop μ-loop
-mul-p-2 c =
-    let p = c .before .before .before .before .pre in
-    omega (arith, roaming-link (p .0) (p .1 .0) (c .before .loop-test .taken) (c .before .before .loop .inv) .0)
+mul-p-2 c = fits-under w64 _ 2000 (roaming-place (c .before .before .before .before .pre .0) (c .before .before .before .before .pre .1 .0) (c .before .loop-test .taken) (c .before .before .loop .inv) .near) tt
 
 mul-a : tie.Need-mul-a Inv-loop μ-loop
-mul-a c =
-    let p = c .before .before .before .before .pre in
-    omega (arith, roaming-link (p .0) (p .1 .0) (c .before .loop-test .taken) (c .before .before .loop .inv) .0)
+mul-a c = scaled-fits _ 2000 4 (roaming-place (c .before .before .before .before .pre .0) (c .before .before .before .before .pre .1 .0) (c .before .loop-test .taken) (c .before .before .loop .inv) .near) (lit< tt)
 
 shared-slice-read-a : tie.Need-shared-slice-read-a Inv-loop μ-loop
-shared-slice-read-a c =
-    let p = c .before .before .before .before .before .pre in
-    omega (arith, roaming-link (p .0) (p .1 .0) (c .before .before .loop-test .taken) (c .before .before .before .loop .inv) .1)
+shared-slice-read-a c = roaming-place (c .before .before .before .before .before .pre .0) (c .before .before .before .before .before .pre .1 .0) (c .before .before .loop-test .taken) (c .before .before .before .loop .inv) .first
 
 cast-a : tie.Need-cast-a Inv-loop μ-loop
-cast-a c =
-    let p = c .before .before .before .before .before .pre in
-    omega (arith, roaming-link (p .0) (p .1 .0) (c .before .before .loop-test .taken) (c .before .before .before .loop .inv) .2)
+cast-a c = fits-under w64 _ 81 (roaming-place (c .before .before .before .before .before .pre .0) (c .before .before .before .before .before .pre .1 .0) (c .before .before .loop-test .taken) (c .before .before .before .loop .inv) .tail) tt
 
 add-b : tie.Need-add-b Inv-loop μ-loop
-add-b c =
-    let p = c .before .before .before .before .before .pre in
-    omega (arith, roaming-link (p .0) (p .1 .0) (c .before .before .loop-test .taken) (c .before .before .before .loop .inv) .0)
+add-b c = fits-under w64 _ 2000 (roaming-place (c .before .before .before .before .before .pre .0) (c .before .before .before .before .before .pre .1 .0) (c .before .before .loop-test .taken) (c .before .before .before .loop .inv) .near-second) tt
 
 mul-b : tie.Need-mul-b Inv-loop μ-loop
-mul-b c =
-    let p = c .before .before .before .before .before .pre in
-    omega (arith, roaming-link (p .0) (p .1 .0) (c .before .before .loop-test .taken) (c .before .before .before .loop .inv) .0)
+mul-b c = scaled-fits _ 2000 4 (roaming-place (c .before .before .before .before .before .pre .0) (c .before .before .before .before .before .pre .1 .0) (c .before .before .loop-test .taken) (c .before .before .before .loop .inv) .near-second) (lit< tt)
 
 shared-slice-read-b : tie.Need-shared-slice-read-b Inv-loop μ-loop
-shared-slice-read-b c =
-    let p = c .before .before .before .before .before .before .pre in
-    omega (arith, roaming-link (p .0) (p .1 .0) (c .before .before .before .loop-test .taken) (c .before .before .before .before .loop .inv) .1)
+shared-slice-read-b c = roaming-place (c .before .before .before .before .before .before .pre .0) (c .before .before .before .before .before .before .pre .1 .0) (c .before .before .before .loop-test .taken) (c .before .before .before .before .loop .inv) .second
 
 cast-b : tie.Need-cast-b Inv-loop μ-loop
-cast-b c =
-    let p = c .before .before .before .before .before .before .pre in
-    omega (arith, roaming-link (p .0) (p .1 .0) (c .before .before .before .loop-test .taken) (c .before .before .before .before .loop .inv) .3)
+cast-b c = fits-under w64 _ 81 (roaming-place (c .before .before .before .before .before .before .pre .0) (c .before .before .before .before .before .before .pre .1 .0) (c .before .before .before .loop-test .taken) (c .before .before .before .before .loop .inv) .head) tt
 
 add-spare : tie.Need-add-spare Inv-loop μ-loop
-add-spare c =
-    let p = c .before .before .before .before .before .before .pre in
-    omega (arith, roaming-link (p .0) (p .1 .0) (c .before .before .before .loop-test .taken) (c .before .before .before .before .loop .inv) .0)
+add-spare c = fits-under w64 _ 2000 (roaming-place (c .before .before .before .before .before .before .pre .0) (c .before .before .before .before .before .before .pre .1 .0) (c .before .before .before .loop-test .taken) (c .before .before .before .before .loop .inv) .near-fourth) tt
 
 mul-spare : tie.Need-mul-spare Inv-loop μ-loop
-mul-spare c =
-    let p = c .before .before .before .before .before .before .pre in
-    omega (arith, roaming-link (p .0) (p .1 .0) (c .before .before .before .loop-test .taken) (c .before .before .before .before .loop .inv) .0)
+mul-spare c = scaled-fits _ 2000 4 (roaming-place (c .before .before .before .before .before .before .pre .0) (c .before .before .before .before .before .before .pre .1 .0) (c .before .before .before .loop-test .taken) (c .before .before .before .before .loop .inv) .near-fourth) (lit< tt)
 
 shared-slice-read-spare : tie.Need-shared-slice-read-spare Inv-loop μ-loop
-shared-slice-read-spare c =
-    let p = c .before .before .before .before .before .before .before .pre in
-    omega (arith, roaming-link (p .0) (p .1 .0) (c .before .before .before .before .loop-test .taken) (c .before .before .before .before .before .loop .inv) .1)
+shared-slice-read-spare c = roaming-place (c .before .before .before .before .before .before .before .pre .0) (c .before .before .before .before .before .before .before .pre .1 .0) (c .before .before .before .before .loop-test .taken) (c .before .before .before .before .before .loop .inv) .fourth
 
 loop-less : tie.Need-loop-less Inv-loop μ-loop
 loop-less c =
