@@ -1,0 +1,127 @@
+// Runs the cases of the script on standard input, a line each, and prints for each its name and what the call answers; "memory" follows where a
+// byte or a number is not what it must be after the call. The script says at its top how its lines are read.
+// Rests on `script` for the lines and on `forms`, `distances` and `planning` for the calls.
+mod distances;
+mod forms;
+mod lent;
+mod planning;
+mod print;
+mod script;
+
+ghost use Prim.Native.Nat.{_≤_};
+ghost use lib.ListN.{length};
+
+// What holds between cases: the length of the kept bytes, and how much output and scratch is lent.
+struct State {
+    kept: usize,
+    out: usize,
+    scratch: usize,
+}
+
+// Numbers of the calls `commit` and `lend` have four bytes where the script says nothing, those of others one.
+fn usual(letter: u8) -> usize {
+    match letter {
+        b'c' | b'l' => 4,
+        _ => 1,
+    }
+}
+
+fn keep(input: &[u8], kept: &mut [u8], s: State) -> State {
+    let n = script::copy(input, kept);
+    print::length(n);
+    print::end(true);
+    State {
+        kept: n,
+        out: s.out,
+        scratch: s.scratch,
+    }
+}
+
+fn lend(input: &[u8], s: State) -> State {
+    print::end(true);
+    State {
+        kept: s.kept,
+        out: script::four(input, 0) as usize,
+        scratch: script::four(input, 4) as usize,
+    }
+}
+
+fn plan(letter: u8, input: &[u8], kept: &mut [u8], s: State) -> State {
+    let n = planning::call(letter, input, kept, s.kept, s.out, s.scratch);
+    State {
+        kept: n,
+        out: s.out,
+        scratch: s.scratch,
+    }
+}
+
+// The calls that change nothing.
+fn try_call(letter: u8, input: &[u8], out: usize) {
+    match letter {
+        b'r' => forms::read(input),
+        b'e' => forms::every(input),
+        b'w' => forms::write(input, out),
+        _ => distances::table(input, out),
+    }
+}
+
+fn call(letter: u8, input: &[u8], kept: &mut [u8], s: State) -> State {
+    match letter {
+        b'k' => keep(input, kept, s),
+        b'l' => lend(input, s),
+        b'p' | b'c' => plan(letter, input, kept, s),
+        _ => {
+            try_call(letter, input, s.out);
+            s
+        }
+    }
+}
+
+// The call of a line at a place, and the bytes that it is given.
+fn answer(line: &[u8], at: usize, kept: &mut [u8], s: State) -> State
+    requires { ⌜ at ≤ length (now line) ⌝ }
+{
+    let letter = script::byte(line, at);
+    let mut input = lent::output();
+    let n = script::bytes(
+        line,
+        at,
+        usual(letter),
+        lent::part(kept, s.kept),
+        &mut input,
+    );
+    call(letter, &input[..n], kept, s)
+}
+
+// A line that begins with # and an empty one are no cases. Others have a name up to a colon, a space and the call.
+fn case(line: &[u8], kept: &mut [u8], s: State) -> State {
+    match script::byte(line, 0) {
+        b'\n' | b'#' => s,
+        _ => {
+            let colon = script::after(line, 0, b':');
+            io::write_all(libc::STDOUT_FILENO, &line[..colon]);
+            answer(line, script::after(line, colon, b' '), kept, s)
+        }
+    }
+}
+
+fn run(text: &[u8], kept: &mut [u8]) {
+    let mut s = State {
+        kept: 0,
+        out: 2048,
+        scratch: 8200,
+    };
+    let mut at = 0;
+    while at < text.len() {
+        let end = script::after(text, at, b'\n');
+        s = case(&text[at..end], kept, s);
+        at = end;
+    }
+}
+
+fn main() {
+    let mut text = io::large_buffer();
+    let n = io::read_full(libc::STDIN_FILENO, &mut text);
+    let mut kept = lent::output();
+    run(&text[..n], &mut kept);
+}

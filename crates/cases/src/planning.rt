@@ -1,0 +1,113 @@
+// Plannings and commitments.
+// Rests on crate `plan`.
+ghost use Prim.Native.Nat.{_≤_};
+use crate::lent;
+use crate::print;
+use crate::script;
+use plan::Answer;
+
+// These two drop what the calls promise, so that what follows them costs no proof.
+fn plan_once(ticket: &[u8], out: &mut [u8], scratch: &mut [u32]) -> Answer {
+    plan::plan(ticket, out, scratch)
+}
+
+fn commit_once(record: &[u8], input: &[u8], out: &mut [u8], scratch: &mut [u32]) -> Answer {
+    let event = script::four(input, 0);
+    let opens = script::four(input, 4);
+    plan::commit(record, event, opens, script::four(input, 8), out, scratch)
+}
+
+// Plan the input, or commit to the record.
+fn answer(letter: u8, input: &[u8], record: &[u8], out: &mut [u8], scratch: &mut [u32]) -> Answer {
+    if letter == b'p' {
+        plan_once(input, out, scratch)
+    } else {
+        commit_once(record, input, out, scratch)
+    }
+}
+
+// Flag, open and close.
+fn window(record: &[u8], at: usize)
+    requires { ⌜ at ≤ 3000 ⌝ }
+{
+    print::number(script::byte(record, at) as u32);
+    print::number(script::four(record, at + 1));
+    print::number(script::four(record, at + 5));
+}
+
+// The windows of the record that ends at a place, and its last number.
+fn windows(record: &[u8], end: usize)
+    requires { ⌜ end ≤ 2048 ⌝ }
+{
+    let back = 2 + 9 * script::two(record, 4) as usize;
+    if end < back {
+        return;
+    }
+    let mut at = end - back;
+    while at + 2 < end {
+        window(record, at);
+        at += 9;
+    }
+    print::number(script::two(record, at));
+}
+
+// Whether output and scratch are as they must be.
+fn right(a: Answer, out: &[u8], scratch: &[u32]) -> bool {
+    if lent::written(lent::part(out, a.length), out) {
+        return lent::is_cleared(a.number, scratch);
+    }
+    false
+}
+
+fn report(a: Answer, out: &[u8], scratch: &[u32]) {
+    print::number(a.number);
+    print::length(a.length);
+    print::number(a.total);
+    if a.number == 0 {
+        windows(out, script::least(a.length, 2048));
+    }
+    print::end(right(a, out, scratch));
+}
+
+// One call with some of an output and of scratch lent; the length of the record, 0 for a refusal.
+fn call_in(
+    letter: u8,
+    input: &[u8],
+    record: &[u8],
+    room: usize,
+    out: &mut [u8],
+    more: usize,
+    scratch: &mut [u32],
+) -> usize {
+    let n = script::least(room, out.len());
+    let m = script::least(more, scratch.len());
+    let a = answer(letter, input, record, &mut out[..n], &mut scratch[..m]);
+    report(a, out, scratch);
+    a.length
+}
+
+// One call; the length of what is kept after it, an accepted record in the place of the one before.
+pub fn call(
+    letter: u8,
+    input: &[u8],
+    kept: &mut [u8],
+    before: usize,
+    room: usize,
+    more: usize,
+) -> usize {
+    let mut out = lent::output();
+    let mut scratch = lent::scratch();
+    let n = call_in(
+        letter,
+        input,
+        lent::part(kept, before),
+        room,
+        &mut out,
+        more,
+        &mut scratch,
+    );
+    if n == 0 {
+        return before;
+    }
+    script::copy(lent::part(&out, n), kept)
+}
