@@ -10,7 +10,7 @@ use lib.Seq.{getD-set-same, getD-set-other}
 use Rattle.network.specs.Lists.{by-zero, set-more}
 use Rattle.network.specs.Stored.{at}
 use Rattle.network.specs.Edges.{EdgeIs, extends-edge, Boxes}
-use Rattle.network.specs.Grow.{Flowless, Growing, Admits, boxes-growing}
+use Rattle.network.specs.Grow.{Flowless, Growing, Fits, Admits, boxes-growing}
 use Rattle.network.specs.Solve.{Spans}
 
 -- the bounds of the nodes from 1 on and below k
@@ -65,6 +65,27 @@ built-more {net} {net'} {n} {k} T A first =
           (λ i l ln. extends-edge (A .put .extends) (omega arith) (T .order i l ln))
           (λ ln. let f = first ln in rw (f .0, f .1, f .2) at (A .put .edge));
     }
+
+-- the ends and the biased cost of edge k; the first n are those of the order
+pub record Ends (n k a b c : ℕ) : Type 0 where
+  pub tail : a < 2 * n + 1
+  pub head : b < 2 * n + 1
+  pub cost : c ≤ 2000000
+  pub order : k < n → (a ≡ n + suc k) × (b ≡ suc k) × (c ≡ 1000000)
+
+-- what `admit` asks of it
+pub ends-fit : {net pot tails heads : List ℕ} {n k a b c : ℕ} (m : ℕ) → (n ≤ 40) × (m ≤ 256) → k < n + m → Built net n k pot tails heads → Ends n k a b c
+    → Growing net (4 * n + k) (2 * n + 1) pot tails heads × Fits net (4 * n + k) (2 * n + 1) a b c
+ends-fit m few below B E = (
+  B .growing,
+  record {
+    size = omega (arith, few .0, few .1, B .size);
+    room = omega (arith, few .0, few .1);
+    tail = E .tail;
+    head = E .head;
+    cost = E .cost;
+  },
+)
 
 -- all edges: what `solve` asks
 module _ {net : List ℕ} {n k : ℕ} {pot tails heads : List ℕ} (m : ℕ) (T : Built net n k pot tails heads) (all : k ≡ n + m) where
