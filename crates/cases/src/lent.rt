@@ -4,6 +4,13 @@ ghost use mathlib.Core.Path.{_≡_};
 ghost use lib.ListN.{length};
 use crate::script;
 
+// What holds between cases: the length of the kept bytes, and how much output and scratch is lent.
+pub struct State {
+    pub kept: usize,
+    pub out: usize,
+    pub scratch: usize,
+}
+
 pub fn output() -> [u8; 2048]
     ensures { λ r. ⌜ 2048 ≡ length r ⌝ }
 {

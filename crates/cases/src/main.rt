@@ -10,13 +10,7 @@ mod script;
 
 ghost use Prim.Native.Nat.{_≤_};
 ghost use lib.ListN.{length};
-
-// What holds between cases: the length of the kept bytes, and how much output and scratch is lent.
-struct State {
-    kept: usize,
-    out: usize,
-    scratch: usize,
-}
+use lent::State;
 
 // Numbers of the calls `commit` and `lend` have four bytes where the script says nothing, those of others one.
 fn usual(letter: u8) -> usize {
@@ -46,15 +40,6 @@ fn lend(input: &[u8], s: State) -> State {
     }
 }
 
-fn plan(letter: u8, input: &[u8], kept: &mut [u8], s: State) -> State {
-    let n = planning::call(letter, input, kept, s.kept, s.out, s.scratch);
-    State {
-        kept: n,
-        out: s.out,
-        scratch: s.scratch,
-    }
-}
-
 // The calls that change nothing.
 fn try_call(letter: u8, input: &[u8], out: usize) {
     match letter {
@@ -69,7 +54,7 @@ fn call(letter: u8, input: &[u8], kept: &mut [u8], s: State) -> State {
     match letter {
         b'k' => keep(input, kept, s),
         b'l' => lend(input, s),
-        b'p' | b'c' => plan(letter, input, kept, s),
+        b'p' | b'c' => planning::call(letter, input, kept, s),
         _ => {
             try_call(letter, input, s.out);
             s
@@ -77,35 +62,29 @@ fn call(letter: u8, input: &[u8], kept: &mut [u8], s: State) -> State {
     }
 }
 
-// The call of a line at a place, and the bytes that it is given.
-fn answer(line: &[u8], at: usize, kept: &mut [u8], s: State) -> State
+// The call at a place of a line, with the bytes of the words after it.
+fn answer(line: &[u8], at: usize, kept: &mut [u8], input: &mut [u8], s: State) -> State
     requires { ⌜ at ≤ length (now line) ⌝ }
 {
     let letter = script::byte(line, at);
-    let mut input = lent::output();
-    let n = script::bytes(
-        line,
-        at,
-        usual(letter),
-        lent::part(kept, s.kept),
-        &mut input,
-    );
-    call(letter, &input[..n], kept, s)
+    let start = script::after(line, at, b' ');
+    let n = script::bytes(line, start, usual(letter), lent::part(kept, s.kept), input);
+    call(letter, lent::part(input, n), kept, s)
 }
 
 // A line that begins with # and an empty one are no cases. Others have a name up to a colon, a space and the call.
-fn case(line: &[u8], kept: &mut [u8], s: State) -> State {
+fn case(line: &[u8], kept: &mut [u8], input: &mut [u8], s: State) -> State {
     match script::byte(line, 0) {
         b'\n' | b'#' => s,
         _ => {
             let colon = script::after(line, 0, b':');
-            io::write_all(libc::STDOUT_FILENO, &line[..colon]);
-            answer(line, script::after(line, colon, b' '), kept, s)
+            io::write_all(libc::STDOUT_FILENO, lent::part(line, colon));
+            answer(line, script::after(line, colon, b' '), kept, input, s)
         }
     }
 }
 
-fn run(text: &[u8], kept: &mut [u8]) {
+fn run(text: &[u8], kept: &mut [u8], input: &mut [u8]) {
     let mut s = State {
         kept: 0,
         out: 2048,
@@ -114,7 +93,7 @@ fn run(text: &[u8], kept: &mut [u8]) {
     let mut at = 0;
     while at < text.len() {
         let end = script::after(text, at, b'\n');
-        s = case(&text[at..end], kept, s);
+        s = case(&text[at..end], kept, input, s);
         at = end;
     }
 }
@@ -123,5 +102,6 @@ fn main() {
     let mut text = io::large_buffer();
     let n = io::read_full(libc::STDIN_FILENO, &mut text);
     let mut kept = lent::output();
-    run(&text[..n], &mut kept);
+    let mut input = lent::output();
+    run(&text[..n], &mut kept, &mut input);
 }

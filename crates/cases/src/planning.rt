@@ -2,6 +2,7 @@
 // Rests on crate `plan`.
 ghost use Prim.Native.Nat.{_≤_};
 use crate::lent;
+use crate::lent::State;
 use crate::print;
 use crate::script;
 use plan::Answer;
@@ -74,40 +75,35 @@ fn call_in(
     letter: u8,
     input: &[u8],
     record: &[u8],
-    room: usize,
+    s: State,
     out: &mut [u8],
-    more: usize,
     scratch: &mut [u32],
 ) -> usize {
-    let n = script::least(room, out.len());
-    let m = script::least(more, scratch.len());
+    let n = script::least(s.out, out.len());
+    let m = script::least(s.scratch, scratch.len());
     let a = answer(letter, input, record, &mut out[..n], &mut scratch[..m]);
     report(a, out, scratch);
     a.length
 }
 
-// One call; the length of what is kept after it, an accepted record in the place of the one before.
-pub fn call(
-    letter: u8,
-    input: &[u8],
-    kept: &mut [u8],
-    before: usize,
-    room: usize,
-    more: usize,
-) -> usize {
+// One call; an accepted record is kept.
+pub fn call(letter: u8, input: &[u8], kept: &mut [u8], s: State) -> State {
     let mut out = lent::output();
     let mut scratch = lent::scratch();
     let n = call_in(
         letter,
         input,
-        lent::part(kept, before),
-        room,
+        lent::part(kept, s.kept),
+        s,
         &mut out,
-        more,
         &mut scratch,
     );
     if n == 0 {
-        return before;
+        return s;
     }
-    script::copy(lent::part(&out, n), kept)
+    State {
+        kept: script::copy(lent::part(&out, n), kept),
+        out: s.out,
+        scratch: s.scratch,
+    }
 }

@@ -1,5 +1,5 @@
 // The words of a line, and the bytes that they stand for. A word is a number, `*` for the kept bytes, or `@` and a place to go on at; `:` and a width
-// after a number say how many bytes it has, the lowest first. Other words, as the name of the call, stand for nothing.
+// after a number say how many bytes it has, the lowest first.
 // Rests on nothing.
 ghost use Prim.Native.Nat.{_+_, _≤_, _<_, min};
 ghost use lib.ListN.{length};
@@ -52,82 +52,74 @@ fn digit(x: u64, b: u8) -> u64 {
     }
 }
 
-// The decimal of a word, up to its colon.
+// The decimal of the digits of a word.
 fn decimal(word: &[u8]) -> u64 {
     let mut x = 0;
     let mut i = 0;
     while i < word.len() {
-        let b = word[i];
-        if b == b':' {
-            return x;
-        }
-        x = digit(x, b);
+        x = digit(x, word[i]);
         i += 1;
     }
     x
 }
 
-// The number of a word, a negative one plus 2^64.
+// The number of a word, which ends at its colon; a negative one plus 2^64.
 fn value(word: &[u8]) -> u64 {
-    match byte(word, 0) {
-        b'-' => std::num::wrapping_sub_u64(0, decimal(word)),
-        _ => decimal(word),
+    let colon = after(word, 0, b':');
+    let x = decimal(&word[..colon]);
+    if byte(word, 0) == b'-' {
+        return std::num::wrapping_sub_u64(0, x);
     }
+    x
 }
 
-// How many bytes a word has that may be a number.
+// How many bytes the number of a word has.
 fn width(word: &[u8], usual: usize) -> usize {
     let colon = after(word, 0, b':');
     if colon < word.len() {
         return (byte(word, colon) % 16) as usize;
     }
-    match byte(word, 0) {
-        b'-' | b'0'..=b'9' => usual,
-        _ => 0,
-    }
+    usual
 }
 
 // ---- bytes
+
+pub fn least(a: usize, b: usize) -> usize
+    ensures { λ r. ⌜ (r ≤ a) × (r ≤ b) ⌝ }
+{
+    if a < b { a } else { b }
+}
 
 // The bytes at the start of the output, as far as there is room; how many.
 pub fn copy(from: &[u8], out: &mut [u8]) -> usize
     ensures { λ r. ⌜ r ≤ length (now (out .entry)) ⌝ }
 {
+    let n = least(from.len(), out.len());
     let mut i = 0;
-    while i < from.len() {
-        if out.len() <= i {
-            return i;
-        }
+    while i < n {
         out[i] = from[i];
         i += 1;
     }
-    i
+    n
 }
 
-// x in some bytes at a place, as far as there is room; the place after them.
+// x in some bytes at a place, if there is room for them; the place after them.
 fn put(x: u64, width: usize, at: usize, out: &mut [u8]) -> usize
     requires { ⌜ at ≤ length (now out) ⌝ }
     ensures { λ r. ⌜ r ≤ length (now (out .entry)) ⌝ }
 {
+    if out.len() - at < width {
+        return at;
+    }
+    let end = at + width;
     let mut rest = x;
-    let mut left = width;
     let mut i = at;
-    while 0 < left {
-        if out.len() <= i {
-            return i;
-        }
+    while i < end {
         out[i] = (rest % 256) as u8;
         rest /= 256;
-        left -= 1;
         i += 1;
     }
-    i
-}
-
-pub fn least(a: usize, b: usize) -> usize
-    ensures { λ r. ⌜ r ≤ b ⌝ }
-{
-    if a < b { a } else { b }
+    end
 }
 
 // The bytes of a word at a place; the place after them.

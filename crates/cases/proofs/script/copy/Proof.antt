@@ -7,10 +7,10 @@ use Rattle.cases.proofs.script.copy.Statement.{statement}
 use Rattle.cases.proofs.script.copy.Tie as tie
 
 abbrev Inv-loop : tie.InvT-loop
-Inv-loop from out₀ i₀ out i = (i ≤ length from) × (i ≤ length out₀) × (length out ≡ length out₀)
+Inv-loop from out₀ n i₀ out i = (i ≤ n) × (length out ≡ length out₀)
 
 abbrev μ-loop : tie.MeasureT-loop
-μ-loop from out₀ i₀ out i = length from - i
+μ-loop from out₀ n i₀ out i = n - i
 
 pub copy-spec : {M : Type 1} → statement M
 copy-spec =
@@ -18,8 +18,7 @@ copy-spec =
     (tie.spec
     Inv-loop
     μ-loop
-    (λ c. search needs)
-    (λ c. search needs)
+    (λ c κs. search needs)
     (λ c. search needs)
     (λ c. search needs)
     (λ c. search needs)

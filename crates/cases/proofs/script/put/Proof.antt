@@ -1,16 +1,16 @@
 -- `cases::script::put` is safe and ends. Assumes nothing.
 use borrow.Author.Needs.{needs}
-use Prim.Native.Nat.{_≤_}
+use Prim.Native.Nat.{_≤_, _-_}
 use mathlib.Core.Path.{_≡_}
 use lib.ListN.{length}
 use Rattle.cases.proofs.script.put.Statement.{statement}
 use Rattle.cases.proofs.script.put.Tie as tie
 
 abbrev Inv-loop : tie.InvT-loop
-Inv-loop x width at out₀ rest₀ left₀ i₀ out rest left i = (i ≤ length out₀) × (length out ≡ length out₀)
+Inv-loop x width at out₀ end rest₀ i₀ out rest i = (at ≤ i) × (length out ≡ length out₀)
 
 abbrev μ-loop : tie.MeasureT-loop
-μ-loop x width at out₀ rest₀ left₀ i₀ out rest left i = left
+μ-loop x width at out₀ end rest₀ i₀ out rest i = end - i
 
 pub put-spec : {M : Type 1} → statement M
 put-spec =
