@@ -63,28 +63,35 @@ fn call(letter: u8, input: &[u8], kept: &mut [u8], s: State) -> State {
 }
 
 // The call at a place of a line, with the bytes of the words after it.
-fn answer(line: &[u8], at: usize, kept: &mut [u8], input: &mut [u8], s: State) -> State
+fn answer(line: &[u8], at: usize, kept: &mut [u8], s: State) -> State
     requires { ⌜ at ≤ length (now line) ⌝ }
 {
     let letter = script::byte(line, at);
     let start = script::after(line, at, b' ');
-    let n = script::bytes(line, start, usual(letter), lent::part(kept, s.kept), input);
-    call(letter, lent::part(input, n), kept, s)
+    let mut input = lent::output();
+    let n = script::bytes(
+        line,
+        start,
+        usual(letter),
+        lent::part(kept, s.kept),
+        &mut input,
+    );
+    call(letter, lent::part(&input, n), kept, s)
 }
 
 // A line that begins with # and an empty one are no cases. Others have a name up to a colon, a space and the call.
-fn case(line: &[u8], kept: &mut [u8], input: &mut [u8], s: State) -> State {
+fn case(line: &[u8], kept: &mut [u8], s: State) -> State {
     match script::byte(line, 0) {
         b'\n' | b'#' => s,
         _ => {
             let colon = script::after(line, 0, b':');
             io::write_all(libc::STDOUT_FILENO, lent::part(line, colon));
-            answer(line, script::after(line, colon, b' '), kept, input, s)
+            answer(line, script::after(line, colon, b' '), kept, s)
         }
     }
 }
 
-fn run(text: &[u8], kept: &mut [u8], input: &mut [u8]) {
+fn run(text: &[u8], kept: &mut [u8]) {
     let mut s = State {
         kept: 0,
         out: 2048,
@@ -93,7 +100,7 @@ fn run(text: &[u8], kept: &mut [u8], input: &mut [u8]) {
     let mut at = 0;
     while at < text.len() {
         let end = script::after(text, at, b'\n');
-        s = case(&text[at..end], kept, input, s);
+        s = case(&text[at..end], kept, s);
         at = end;
     }
 }
@@ -102,6 +109,5 @@ fn main() {
     let mut text = io::large_buffer();
     let n = io::read_full(libc::STDIN_FILENO, &mut text);
     let mut kept = lent::output();
-    let mut input = lent::output();
-    run(&text[..n], &mut kept, &mut input);
+    run(&text[..n], &mut kept);
 }

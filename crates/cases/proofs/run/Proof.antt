@@ -7,10 +7,10 @@ use Rattle.cases.proofs.run.Statement.{statement}
 use Rattle.cases.proofs.run.Tie as tie
 
 abbrev Inv-loop : tie.InvT-loop
-Inv-loop text kept₀ input₀ s₀ at₀ kept input s at = (at ≤ length text) × (length kept ≡ length kept₀) × (length input ≡ length input₀)
+Inv-loop text kept₀ s₀ at₀ kept s at = (at ≤ length text) × (length kept ≡ length kept₀)
 
 abbrev μ-loop : tie.MeasureT-loop
-μ-loop text kept₀ input₀ s₀ at₀ kept input s at = length text - at
+μ-loop text kept₀ s₀ at₀ kept s at = length text - at
 
 pub run-spec : {M : Type 1} → statement M
 run-spec =
@@ -24,7 +24,6 @@ run-spec =
     (λ c. search needs)
     (λ c. search needs)
     (λ c κs. search needs)
-    (λ c. search needs)
     (λ c. search needs)
     (λ c. search needs)
     (λ c. search needs)
