@@ -13,7 +13,7 @@ ghost use Rattle.flow.specs.Limit.{EdgeFits};
 ghost use Rattle.flow.specs.Widen.{Height};
 ghost use Rattle.flow.specs.Way.{Roomy};
 ghost use Rattle.flow.specs.Push.{Walkable, Walked, Loaded, Sends, Ready, Augmented};
-ghost use Rattle.flow.specs.Solve.{Spans, Weights, Event, Share, Wanted, Carries, Carried, Started, Sent, Lowered, Solved};
+ghost use Rattle.flow.specs.Solve.{Spans, Weights, Share, Wanted, Carries, Carried, Started, Sent, Lowered, Solved};
 use network::BIAS;
 
 // The other end of an edge from a to b, seen from cur.
@@ -184,19 +184,29 @@ fn widen(net: &[u32], m: usize, n: usize, heads: &[u32; 400], pot: &mut [u32; 81
 
 // The event of a hi node, or 0.
 fn event(b: usize, n: usize) -> usize
-    ensures { λ r. ⌜ Event n b r ⌝ }
+    ensures { λ r. ⌜ r ≡ b - n ⌝ }
 {
     if n < b { b - n } else { 0 }
 }
 
-// What edge e can carry, of a supply and a demand: nothing, if it has slack.
-fn share(net: &[u32], pot: &[u32; 81], e: usize, s: u32, d: u32) -> u32
+// What edge e can carry, of what its tail and the event of its head want: nothing, if it has slack.
+fn share(
+    net: &[u32],
+    pot: &[u32; 81],
+    n: usize,
+    e: usize,
+    supply: &[u32; 81],
+    demand: &[u32; 81],
+) -> u32
     requires { ⌜ EdgeFits (now net) (now pot) e ⌝ }
-    ensures { λ r. ⌜ Share (now (net .entry)) (now (pot .entry)) e s d r ⌝ }
+    ensures { λ r. ⌜ Share (now (net .entry)) (now (pot .entry)) n e (now (supply .entry)) (now (demand .entry)) r ⌝ }
 {
-    let b = net[4 * e + 1] as usize;
+    let p = 4 * e;
+    let b = net[p + 1] as usize;
     if limit(net, pot, e) == pot[b] + BIAS {
-        network::least(s, d)
+        let a = net[p] as usize;
+        let j = event(b, n);
+        network::least(supply[a], demand[j])
     } else {
         0
     }
@@ -215,14 +225,16 @@ fn carry(
     requires { ⌜ Wanted (now net) e (now supply) (now demand) ⌝ }
     ensures { λ _. ⌜ Carried (now (net .entry)) (now (net .exit)) (now (pot .entry)) n e (now (supply .entry)) (now (supply .exit)) (now (demand .entry)) (now (demand .exit)) ⌝ }
 {
-    let p = 4 * e;
-    let a = net[p] as usize;
-    let j = event(net[p + 1] as usize, n);
-    let f = share(net, pot, e, supply[a], demand[j]);
-    let q = p + 3;
-    net[q] = net[q] + f;
-    take(supply, a, f);
-    take(demand, j, f);
+    let f = share(net, pot, n, e, supply, demand);
+    if 0 < f {
+        let p = 4 * e;
+        let a = net[p] as usize;
+        let j = event(net[p + 1] as usize, n);
+        let q = p + 3;
+        net[q] = net[q] + f;
+        take(supply, a, f);
+        take(demand, j, f);
+    }
 }
 
 // A first flow: over each edge with no slack from a lo node to a hi node, as much as both ends want.

@@ -1,62 +1,45 @@
--- `carry` meets its contract, by those of `event`, `share` and `take`.
-use borrow.Author.Needs.{needs, scaled-fits, fits-under}
-use lib.Dec.{lit<}
-use mathlib.Core.Path.{refl}
+-- `carry` meets its contract, by those of `share`, `event` and `take`.
+use native.Mathlib.Omega.{arith}
+use borrow.Author.Needs.{needs, fits-under}
 use mir.Syntax.{w32}
-use Rattle.flow.specs.Solve.{event-small, wanted-sum}
+use Rattle.flow.specs.Solve.{wanted-sum, share-to, carried-some, carried-none}
 use Rattle.flow.proofs.carry.Statement.{statement}
 use Rattle.flow.proofs.carry.Tie as tie
 
-mul-share : tie.Need-mul-share
-mul-share c = scaled-fits _ 81 4 (c .before .before .before .before .before .pre .0 .tail) (lit< tt)
-
-element-copy-out-share : tie.Need-element-copy-out-share
-element-copy-out-share c = c .before .before .before .before .before .pre .0 .tail
-
-mul-share-2 : tie.Need-mul-share-2
-mul-share-2 c = scaled-fits _ 81 4 (event-small (c .before .before .event .ensures) (c .before .before .before .before .before .before .pre .0 .head)) (lit< tt)
-
-element-copy-out-share-2 : tie.Need-element-copy-out-share-2
-element-copy-out-share-2 c = event-small (c .before .before .event .ensures) (c .before .before .before .before .before .before .pre .0 .head)
-
 share-requires : tie.Need-share-requires
-share-requires c κs = c .before .before .before .before .before .before .before .pre .0
+share-requires c κs = c .before .before .before .before .pre .0
 
 slice-read-net : tie.Need-slice-read-net
-slice-read-net c = c .before .before .before .before .before .before .before .before .before .pre .0 .inside
+slice-read-net c = c .before .before .before .before .before .before .before .before .before .before .pre .0 .inside
 
 add-net : tie.Need-add-net
-add-net c = fits-under w32 _ 2000 (wanted-sum (c .before .before .before .before .before .before .before .before .before .pre .1) (c .before .share .ensures)) tt
+add-net c = fits-under w32 _ 2000 (wanted-sum (c .before .before .before .before .before .before .before .before .before .before .pre .1) (c .before .before .before .before .before .share .ensures)) tt
 
 slice-write-net : tie.Need-slice-write-net
-slice-write-net c = c .before .before .before .before .before .before .before .before .before .pre .0 .inside
+slice-write-net c = c .before .before .before .before .before .before .before .before .before .before .pre .0 .inside
 
 take-requires : tie.Need-take-requires
 take-requires c κs =
-    let p = c .before .before .before .before .before .before .before .before .before .before .pre in
-    (p .1 .supplies, p .0 .tail, c .before .before .share .ensures .supply)
+    let p = c .before .before .before .before .before .before .before .before .before .before .before .pre in
+    (p .1 .supplies, p .0 .tail, c .before .before .before .before .before .before .share .ensures .from)
 
 take-requires-2 : tie.Need-take-requires-2
 take-requires-2 c κs =
-    let p = c .before .before .before .before .before .before .before .before .before .before .before .before .pre in
-    (p .1 .demands, event-small (c .before .before .before .before .before .before .before .before .event .ensures) (p .0 .head), c .before .before .before .before .share .ensures .demand)
+    let p = c .before .before .before .before .before .before .before .before .before .before .before .before .before .pre in
+    let event = c .before .before .before .before .event .ensures in
+    (p .1 .demands, omega (arith, event, p .0 .head), share-to event (c .before .before .before .before .before .before .before .before .share .ensures))
 
 returns : tie.Need-returns
-returns c =
-    record {
-      event = c .before .before .before .before .before .before .before .before .before .event .result;
-      amount = c .before .before .before .before .before .share .result;
-      hi = c .before .before .before .before .before .before .before .before .before .event .ensures;
-      share = c .before .before .before .before .before .share .ensures;
-      flow = refl;
-      sent = c .before .before .take .ensures;
-      met = c .take2 .ensures;
-    }
+returns c = carried-some (c .before .before .before .before .before .event .ensures) (c .before .before .before .before .before .before .before .before .before .share .ensures) (c .before .before .take .ensures) (c .take2 .ensures)
+
+returns-2 : tie.Need-returns-2
+returns-2 c = carried-none _ _ _ _ _ _
 
 pub carry-spec : {M : Type 1} → statement M
 carry-spec =
     tie.close
     (tie.spec
+    share-requires
     (λ c. search needs)
     (λ c. search needs)
     (λ c. search needs)
@@ -66,11 +49,6 @@ carry-spec =
     (λ c. search needs)
     (λ c. search needs)
     (λ c κs. search needs)
-    mul-share
-    element-copy-out-share
-    mul-share-2
-    element-copy-out-share-2
-    share-requires
     (λ c. search needs)
     (λ c. search needs)
     slice-read-net
@@ -80,4 +58,6 @@ carry-spec =
     take-requires
     take-requires-2
     (λ c. search needs)
-    returns)
+    returns
+    (λ c. search needs)
+    returns-2)
