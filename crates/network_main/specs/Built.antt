@@ -11,7 +11,7 @@ use Rattle.network.specs.Lists.{by-zero, set-more}
 use Rattle.network.specs.Stored.{at}
 use Rattle.network.specs.Edges.{EdgeIs, extends-edge, Boxes}
 use Rattle.network.specs.Grow.{Flowless, Growing, Fits, Admits, boxes-growing}
-use Rattle.network.specs.Solve.{Spans}
+use Rattle.flow.specs.Solve.{Spans}
 
 -- the bounds of the nodes from 1 on and below k
 pub record Bounded (low high : List ℕ) (k : ℕ) : Type 0 where

@@ -14,9 +14,11 @@ use Rattle.temporal.specs.Ticket as temporal
 use Rattle.temporal.specs.Ticket.{Window, origin, weight, total}
 use Rattle.temporal.specs.Best.{Chosen, Sooner}
 use Rattle.network.specs.Network as network
-use Rattle.network.specs.Network.{Feasible, Ordered, LeastWidest}
+use Rattle.network.specs.Network.{Feasible, Ordered}
+use Rattle.flow.specs.Width as flow
+use Rattle.flow.specs.Width.{LeastWidest}
 use Rattle.network.specs.Stored.{at, flowOf, stored, Network}
-use Rattle.network.specs.Solve.{Spans}
+use Rattle.flow.specs.Solve.{Spans}
 use Rattle.network.specs.Edges.{EdgeIs, edge-meets, meets-edge, Extends, extends-edge, Put, Boxes, boxes-kept, by-boxes}
 use Rattle.network.specs.Grow.{Flowless}
 use Rattle.ticket.specs.declared.Ticket.{Ticket}
@@ -210,10 +212,10 @@ module _ {net : List ℕ} {t : Ticket} {low high : ℕ → ℕ} (B : Built net t
     met : Meeting t low high p
     met = feasible-meeting p (best .widest .feasible)
 
-    the-total : total (content t) (windowsOf (t .events) p) ≡ network.total (stored (t .events) (edges t) net) w p
+    the-total : total (content t) (windowsOf (t .events) p) ≡ flow.total (stored (t .events) (edges t) net) w p
     the-total = total-windows net (edges t) t w owned p (met .origin)
 
-    wide : (vs : List Window) → Allowed t low high vs → (total (content t) vs ≡ network.total (stored (t .events) (edges t) net) w (potentialOf (t .events) vs))
+    wide : (vs : List Window) → Allowed t low high vs → (total (content t) vs ≡ flow.total (stored (t .events) (edges t) net) w (potentialOf (t .events) vs))
         × Feasible (stored (t .events) (edges t) net) (potentialOf (t .events) vs) × Ordered (stored (t .events) (edges t) net) (potentialOf (t .events) vs)
     wide vs a = (
       total-potential net (edges t) t w owned vs (a .count),

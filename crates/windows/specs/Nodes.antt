@@ -12,9 +12,9 @@ use lib.ListN.{length, getD}
 use Rattle.temporal.specs.Lists.{tab, length-tab, getD-tab, below-or-not}
 use Rattle.temporal.specs.Ticket as temporal
 use Rattle.temporal.specs.Ticket.{Window, origin, weight, totalOf, total}
-use Rattle.network.specs.Sum.{sum, sum-cong, sum-first}
-use Rattle.network.specs.Network as network
-use Rattle.network.specs.Network.{over}
+use Rattle.flow.specs.Sum.{sum, sum-cong, sum-first}
+use Rattle.flow.specs.Width as flow
+use Rattle.flow.specs.Width.{over}
 use Rattle.network.specs.Stored.{at, stored}
 use Rattle.ticket.specs.declared.Ticket.{Ticket}
 use Rattle.ticket.specs.Writing.{content}
@@ -123,14 +123,14 @@ total-in t ws e =
 
 -- the network's total is the windows' where each event weighs what its owner does
 module _ (net : List ℕ) (m : ℕ) (t : Ticket) (w : ℕ → ℕ) (owned : (i : ℕ) → i < t .events → w (suc i) ≡ weight (at (t .owners) i)) where
-  pub total-potential : (ws : List Window) → length ws ≡ t .events → total (content t) ws ≡ network.total (stored (t .events) m net) w (potentialOf (t .events) ws)
+  pub total-potential : (ws : List Window) → length ws ≡ t .events → total (content t) ws ≡ flow.total (stored (t .events) m net) w (potentialOf (t .events) ws)
   unfolding over
   total-potential ws e =
       let n = t .events in
       total-in t ws e
       ∙ sum-cong _ _ n (λ i l. sym (ap₂ _*_ (owned i l) (ap₂ _-_ (potential-close n ws (suc i) (omega arith)) (potential-open n ws (suc i) l))))
 
-  pub total-windows : (p : ℕ → ℕ) → p 0 ≡ 0 → total (content t) (windowsOf (t .events) p) ≡ network.total (stored (t .events) m net) w p
+  pub total-windows : (p : ℕ → ℕ) → p 0 ≡ 0 → total (content t) (windowsOf (t .events) p) ≡ flow.total (stored (t .events) m net) w p
   unfolding over
   total-windows p z =
       let n = t .events in

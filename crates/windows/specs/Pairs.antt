@@ -11,7 +11,7 @@ use lib.Seq.{getD-set-same, getD-set-other}
 use Rattle.temporal.specs.Lists.{tab-cong}
 use Rattle.temporal.specs.Ticket.{weight, weight-small, Window}
 use Rattle.network.specs.Lists.{set-more}
-use Rattle.network.specs.Solve.{Weights, weights-none, weights-more}
+use Rattle.flow.specs.Solve.{Weights, weights-none, weights-more}
 use Rattle.network.specs.Stored.{at}
 use Rattle.windows.specs.Arrays.{windowList, firsts-tab, window-at, Within, within-same}
 use Rattle.windows.specs.Nodes.{by-nodes, windowsOf, potentialOf, potential-open, potential-close}

@@ -5,7 +5,7 @@ use mathlib.Core.List.{List}
 use native.Mathlib.Omega.{arith}
 use native.Mathlib.Nat.{mul-le-mul-left, mul-le-mul-right}
 use Rattle.temporal.specs.Ticket.{Window, weight, total}
-use Rattle.network.specs.Sum.{sum, sum-cong}
+use Rattle.flow.specs.Sum.{sum, sum-cong}
 use Rattle.network.specs.Stored.{at}
 use Rattle.ticket.specs.declared.Ticket.{Ticket}
 use Rattle.ticket.specs.Writing.{content}

@@ -16,7 +16,7 @@ ghost use Rattle.temporal.specs.Run.{Valid};
 ghost use Rattle.network.specs.Stored.{at};
 ghost use Rattle.network.specs.Edges.{Extends, Put};
 ghost use Rattle.network.specs.Grow.{Growing, Admits, Flowless};
-ghost use Rattle.network.specs.Solve.{Spans};
+ghost use Rattle.flow.specs.Solve.{Spans};
 ghost use Rattle.ticket.specs.Writing.{content};
 ghost use Rattle.windows.specs.Arrays.{windowList, flagList, Given, Lie, Room, Within, Planned, Committed};
 ghost use Rattle.windows.specs.Nodes.{closeNode};
@@ -196,7 +196,7 @@ fn widest(net: &mut [u32], n: usize, m: usize, owners: &[u8; 40], pot: &mut [u32
 {
     let mut weight = [0u32; 81];
     weigh(n, owners, &mut weight);
-    network::solve(net, m, n, pot, &weight);
+    flow::solve(net, m, n, pot, &weight);
 }
 
 // From a potential within the boxes to the best windows within them.

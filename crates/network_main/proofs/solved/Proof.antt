@@ -1,7 +1,7 @@
 -- `network_main::solved` is safe and ends. Assumes nothing.
 use native.Mathlib.Omega.{arith}
 use borrow.Author.Needs.{needs}
-use Rattle.network.specs.Solve.{weights-none}
+use Rattle.flow.specs.Solve.{weights-none}
 use Rattle.network_main.proofs.solved.Statement.{statement}
 use Rattle.network_main.proofs.solved.Tie as tie
 

@@ -3,7 +3,7 @@ use native.Mathlib.Omega.{arith}
 use borrow.Author.Needs.{needs}
 use Prim.Native.Nat.{_-_, _≤_}
 use mathlib.Core.Path.{_≡_}
-use Rattle.network.specs.Solve.{Weights, weights-more}
+use Rattle.flow.specs.Solve.{Weights, weights-more}
 use Rattle.network_main.proofs.weights.Statement.{statement}
 use Rattle.network_main.proofs.weights.Tie as tie
 

@@ -3,7 +3,7 @@ use native.Mathlib.Omega.{arith}
 use borrow.Author.Needs.{needs}
 use Prim.Native.Nat.{_*_, _-_, _≤_}
 use mathlib.Core.Path.{_≡_, refl, sym, ap, _∙_}
-use Rattle.network.specs.Sum as sums
+use Rattle.flow.specs.Sum as sums
 use Rattle.windows.specs.Arrays.{valid-given, lie-at}
 use Rattle.windows.specs.Total.{part, sum-next, total-parts}
 use Rattle.windows.proofs.total.Statement.{statement}
