@@ -1,5 +1,5 @@
 // What is lent to a call, and what it must hold afterwards.
-// Rests on `script` for copying.
+// Rests on `script` for copying and on the library `check` for comparing.
 ghost use mathlib.Core.Path.{_≡_};
 ghost use lib.ListN.{length};
 use crate::script;

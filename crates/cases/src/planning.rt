@@ -52,22 +52,52 @@ fn windows(record: &[u8], end: usize)
     print::number(script::two(record, at));
 }
 
-// Whether output and scratch are as they must be.
-fn right(a: Answer, out: &[u8], scratch: &[u32]) -> bool {
+// Whether an accepted record begins with the ticket of `given`, and then has as many windows as that has events.
+fn begins(a: Answer, given: &[u8], out: &[u8]) -> bool {
+    let n = script::two(out, 4);
+    let end = script::least(a.length, 2048);
+    let back = 4 + 9 * n as usize;
+    if end < back {
+        return a.number != 0;
+    }
+    if script::two(out, end - back) != n {
+        return false;
+    }
+    check::same(lent::part(out, end - back), lent::part(given, end - back))
+}
+
+// Whether the output past the record, and scratch, are as they must be.
+fn left(a: Answer, out: &[u8], scratch: &[u32]) -> bool {
     if lent::written(lent::part(out, a.length), out) {
         return lent::is_cleared(a.number, scratch);
     }
     false
 }
 
-fn report(a: Answer, out: &[u8], scratch: &[u32]) {
+// Whether all is right: `given` is the ticket planned, or the record committed to.
+fn right(a: Answer, given: &[u8], out: &[u8], scratch: &[u32]) -> bool {
+    if begins(a, given, out) {
+        return left(a, out, scratch);
+    }
+    false
+}
+
+fn show(a: Answer, out: &[u8]) {
     print::number(a.number);
     print::length(a.length);
     print::number(a.total);
     if a.number == 0 {
         windows(out, script::least(a.length, 2048));
     }
-    print::end(right(a, out, scratch));
+}
+
+fn report(letter: u8, a: Answer, input: &[u8], record: &[u8], out: &[u8], scratch: &[u32]) {
+    show(a, out);
+    if letter == b'p' {
+        print::end(right(a, input, out, scratch));
+    } else {
+        print::end(right(a, record, out, scratch));
+    }
 }
 
 // One call with some of an output and of scratch lent; the length of the record, 0 for a refusal.
@@ -82,7 +112,7 @@ fn call_in(
     let n = script::least(s.out, out.len());
     let m = script::least(s.scratch, scratch.len());
     let a = answer(letter, input, record, &mut out[..n], &mut scratch[..m]);
-    report(a, out, scratch);
+    report(letter, a, input, record, out, scratch);
     a.length
 }
 

@@ -37,7 +37,7 @@ pub record Stopped (n : ℕ) (D : Matrix) : Type 0 where
   pub before : Kept n D stop
   pub fallen : Fallen n (after n D (suc stop))
 
--- Everywhere stops were taken and the entries are R, or an entry fell below its floor on the way.
+-- All stops were taken and the entries are R, or an entry fell below its floor on the way.
 pub record Closed (n : ℕ) (D R : Matrix) (r : Bool) : Type 0 where
   pub kept : r ≡ true → Kept n D (n + 1)
   pub entries : r ≡ true → Everywhere n (λ i j. R i j ≡ after n D (n + 1) i j)

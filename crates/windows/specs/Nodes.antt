@@ -1,5 +1,5 @@
 -- Windows as a potential of 2 n + 1 nodes and back: node i is the open of event i, node n + i its close. Their weighted total is the potential's.
--- Rests on temporal's total and network's.
+-- Rests on temporal's total and flow's.
 use mathlib.Core.Path.{_≡_, refl, sym, ap, ap₂, _∙_, subst}
 use mathlib.Core.Bool.{cond}
 use mathlib.Core.List.{List, [], _∷_}

@@ -1,6 +1,6 @@
 // Planning and commitment on a ticket's struct: a schedule by a network of points, the best windows by a network of opens and closes.
 // Event i + 1 has the places i of the arrays. An edge is four numbers of the lent slice: tail, head, biased cost, flow.
-// Rests on `ticket` for the struct and on `network` for the search.
+// Rests on `ticket` for the struct, on `temporal` for the weights, on `network` for the edges and the schedule, and on `flow` for the widest windows.
 
 ghost use mathlib.Core.Path.{_≡_};
 ghost use mathlib.Core.Bool.{cond, true, false};
