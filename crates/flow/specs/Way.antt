@@ -7,7 +7,7 @@ use native.Mathlib.Omega.{arith}
 use native.Mathlib.Decide.{ℕ-discrete, decLt}
 use borrow.Author.Count.{below-more}
 use Rattle.network.specs.Stored.{at, tailOf, headOf, flowOf, Network}
-use Rattle.network.specs.Tree.{Link, Linked}
+use Rattle.search.specs.Tree.{Link, Linked}
 use Rattle.flow.specs.Sum.{whenEq, when-is, whenEq-other}
 use Rattle.flow.specs.Limit.{Place, edge-place}
 

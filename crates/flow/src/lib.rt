@@ -7,7 +7,7 @@ ghost use Prim.Native.Nat.{ℕ, _+_, _*_, _-_, _<_, _≤_, min};
 ghost use lib.ListN.{length, set};
 ghost use Rattle.network.specs.Stored.{at, tailOf, costOf, flowOf, Network, Potential};
 ghost use Rattle.network.specs.Index.{Index};
-ghost use Rattle.network.specs.Tree.{Linked};
+ghost use Rattle.search.specs.Tree.{Linked};
 ghost use Rattle.network.specs.Grow.{Flowless};
 ghost use Rattle.flow.specs.Limit.{EdgeFits};
 ghost use Rattle.flow.specs.Widen.{Height};
@@ -131,7 +131,7 @@ fn augment(
     ensures { λ r. ⌜ Augmented (now (net .entry)) (now (net .exit)) m nodes (now (pot .exit)) root (now (supply .entry)) (now (supply .exit)) want r ⌝ }
     ensures { λ _. ⌜ (length (now (stamp .exit)) ≡ 81) × (length (now (via .exit)) ≡ 81) ⌝ }
 {
-    let v = network::reach(net, m, nodes, tails, heads, pot, stamp, via, root, supply);
+    let v = search::reach(net, m, nodes, tails, heads, pot, stamp, via, root, supply);
     push(net, m, nodes, stamp, via, root, v, supply, want)
 }
 
@@ -352,7 +352,7 @@ fn lower(
     let mut stamp = [0usize; 81];
     let mut via = [0usize; 81];
     let none = [0u32; 81];
-    network::reach(
+    search::reach(
         net,
         m,
         nodes,

@@ -1,0 +1,81 @@
+-- `admit` meets its contract: the edge is stored, the potential moves towards its demand, and the edge is put into the lists where the demand is met.
+use native.Mathlib.Omega.{arith}
+use borrow.Author.Needs.{needs}
+use mathlib.Core.Path.{refl}
+use Rattle.network.specs.Stored.{pot-bound}
+use Rattle.network.specs.Index.{listing-fits}
+use Rattle.network.specs.Grow.{extends-growing}
+use Rattle.search.specs.Admit.{admits-yes, admits-no}
+use Rattle.search.proofs.admit.Statement.{statement}
+use Rattle.search.proofs.admit.Tie as tie
+
+put-requires : tie.Need-put-requires
+put-requires c κs =
+    let p = c .before .before .pre in
+    omega (arith, p .1 .size, p .1 .tail, p .1 .head, p .0 .flowless .network .few)
+
+approach-requires : tie.Need-approach-requires
+approach-requires c κs =
+    let p = c .before .before .before .before .before .before .before .before .before .pre in
+    (extends-growing (c .before .before .before .before .before .before .put .ensures .extends) (p .0), (p .1 .tail, p .1 .head, p .1 .cost))
+
+add-if1 : tie.Need-add-if1
+add-if1 c =
+    let s = c .before .before .before .before .before .before .before .before .before .before .before in
+    let F = c .before .approach .ensures .growing .flowless in
+    omega (arith, pot-bound _ _ _ _ (F .network) (F .potential) (s .args .a) (s .pre .1 .tail), s .pre .1 .cost)
+
+add-if1-2 : tie.Need-add-if1-2
+add-if1-2 c =
+    let s = c .before .before .before .before .before .before .before .before .before .before .before .before in
+    let F = c .before .before .approach .ensures .growing .flowless in
+    omega (arith, pot-bound _ _ _ _ (F .network) (F .potential) (s .args .b) (s .pre .1 .head))
+
+returns : tie.Need-returns
+returns c = admits-no (c .before .before .before .before .before .before .before .before .before .before .put .ensures) (c .before .before .before .approach .ensures) (c .if1 .taken)
+
+sub-place : tie.Need-sub-place
+sub-place c = omega (arith, listing-fits (c .before .before .before .approach .ensures .growing .flowless .network))
+
+add-place-2 : tie.Need-add-place-2
+add-place-2 c = omega (arith, c .before .before .before .before .before .before .before .before .before .before .before .before .before .pre .1 .room)
+
+link-requires : tie.Need-link-requires
+link-requires c κs =
+    let p = c .before .before .before .before .before .before .before .before .before .before .before .before .before .before .pre in
+    let N = p .0 .flowless .network in
+    (p .0 .by-tail .long, omega (arith, p .1 .room), omega (arith, p .1 .tail, N .few), omega (arith, p .1 .room, N .few))
+
+link-requires-2 : tie.Need-link-requires-2
+link-requires-2 c κs =
+    let p = c .before .before .before .before .before .before .before .before .before .before .before .before .before .before .before .before .pre in
+    let N = p .0 .flowless .network in
+    (p .0 .by-head .long, omega (arith, p .1 .room), omega (arith, p .1 .head, N .few), omega (arith, p .1 .room, N .few))
+
+returns-2 : tie.Need-returns-2
+returns-2 c =
+    let a = c .before .before .before .before .before .before .before .approach .ensures in
+    admits-yes (c .before .before .before .before .before .before .before .before .before .before .before .before .before .before .put .ensures) a _ (c .before .before .before .before .before .before .before .before .before .before .before .before .before .before .before .before .before .pre .1) (c .before .before .before .before .if1 .left) refl (c .before .before .link .ensures) (c .link2 .ensures)
+
+pub admit-spec : {M : Type 1} → statement M
+admit-spec =
+    tie.close
+    (tie.spec
+    put-requires
+    approach-requires
+    (λ c. search needs)
+    (λ c. search needs)
+    add-if1
+    (λ c. search needs)
+    (λ c. search needs)
+    add-if1-2
+    (λ c. search needs)
+    returns
+    (λ c. search needs)
+    (λ c. search needs)
+    sub-place
+    add-place-2
+    link-requires
+    link-requires-2
+    (λ c. search needs)
+    returns-2)

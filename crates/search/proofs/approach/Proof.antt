@@ -1,0 +1,50 @@
+-- `approach` meets its contract, by that of `reach`.
+use native.Mathlib.Omega.{arith}
+use borrow.Author.Needs.{needs}
+use mathlib.Core.Path.{refl}
+use Rattle.network.specs.Stored.{pot-bound}
+use Rattle.search.specs.Admit.{approached-now, approached-search}
+use Rattle.search.proofs.approach.Statement.{statement}
+use Rattle.search.proofs.approach.Tie as tie
+
+add-if1 : tie.Need-add-if1
+add-if1 c =
+    let s = c .before .before in
+    let F = s .pre .0 .flowless in
+    omega (arith, pot-bound _ _ _ _ (F .network) (F .potential) (s .args .a) (s .pre .1 .0), s .pre .1 .2)
+
+add-if1-2 : tie.Need-add-if1-2
+add-if1-2 c =
+    let s = c .before .before .before in
+    let F = s .pre .0 .flowless in
+    omega (arith, pot-bound _ _ _ _ (F .network) (F .potential) (s .args .b) (s .pre .1 .1))
+
+reach-requires : tie.Need-reach-requires
+reach-requires c κs =
+    let s = c .before .before .before .before .before .before .before .before in
+    let G = s .pre .0 in
+    (G .flowless .network, (G .flowless .potential, (G .by-tail, (G .by-head, (refl, refl, s .pre .1 .0)))))
+
+returns : tie.Need-returns
+returns c =
+    let s = c .before .before .before .before .before .before .before .before .before in
+    approached-search (s .pre .0) _ _ _ (c .reach .ensures) (s .pre .1 .1)
+
+returns-2 : tie.Need-returns-2
+returns-2 c = approached-now (c .before .before .before .before .pre .0) (c .if1 .left)
+
+pub approach-spec : {M : Type 1} → statement M
+approach-spec =
+    tie.close
+    (tie.spec
+    (λ c. search needs)
+    (λ c. search needs)
+    add-if1
+    (λ c. search needs)
+    (λ c. search needs)
+    add-if1-2
+    (λ c. search needs)
+    (λ c. search needs)
+    reach-requires
+    returns
+    returns-2)

@@ -1,0 +1,106 @@
+-- `explore` meets its contract. Each turn looks at the nodes that were just reached, and then reaches the nearest or scans one.
+use native.Mathlib.Omega.{arith}
+use borrow.Author.Needs.{needs}
+use Prim.Native.Nat.{_+_, _*_, _-_}
+use Rattle.search.specs.Reach.{Searching, root-small, searching-start, counts, goal-asks, near-asks, near-less, searching-near, scan-asks, scan-less, searching-scan, explored-goal, explored-all}
+use Rattle.search.proofs.explore.Statement.{statement}
+use Rattle.search.proofs.explore.Tie as tie
+
+abbrev Inv-loop : tie.InvT-loop
+Inv-loop net m nodes tails heads pot stamp₀ via₀ dist₀ root goal order₀ key₀ t₀ seen₀ s₀ d₀ stamp via dist order key t seen s d = Searching net m nodes pot stamp via dist order key root goal t seen s d
+
+abbrev μ-loop : tie.MeasureT-loop
+μ-loop net m nodes tails heads pot stamp₀ via₀ dist₀ root goal order₀ key₀ t₀ seen₀ s₀ d₀ stamp via dist order key t seen s d = 2 * nodes - (t + s)
+
+mul-stamp : tie.Need-mul-stamp Inv-loop μ-loop
+mul-stamp c = omega (arith, root-small (c .before .before .pre))
+
+element-write-stamp : tie.Need-element-write-stamp Inv-loop μ-loop
+element-write-stamp c = root-small (c .before .before .pre)
+
+mul-dist : tie.Need-mul-dist Inv-loop μ-loop
+mul-dist c = omega (arith, root-small (c .before .before .pre))
+
+element-write-dist : tie.Need-element-write-dist Inv-loop μ-loop
+element-write-dist c = root-small (c .before .before .pre)
+
+loop-holds : tie.Need-loop-holds Inv-loop μ-loop
+loop-holds c = searching-start (c .before .before .pre)
+
+last-goal-requires : tie.Need-last-goal-requires Inv-loop μ-loop
+last-goal-requires c κs = goal-asks (c .before .before .loop .inv)
+
+mul-t27 : tie.Need-mul-t27 Inv-loop μ-loop
+mul-t27 c = omega (arith, counts (c .before .before .before .before .loop .inv), c .if1 .taken)
+
+array-read-t30 : tie.Need-array-read-t30 Inv-loop μ-loop
+array-read-t30 c = omega (arith, counts (c .before .before .before .before .loop .inv), c .if1 .taken)
+
+returns : tie.Need-returns Inv-loop μ-loop
+returns c = explored-goal (c .before .before .before .before .loop .inv) (c .before .last-goal .ensures) (c .if1 .taken)
+
+nearest-requires : tie.Need-nearest-requires Inv-loop μ-loop
+nearest-requires c κs = search needs
+
+mul-d : tie.Need-mul-d Inv-loop μ-loop
+mul-d c = omega (arith, near-asks (c .before .before .before .before .before .before .before .loop .inv) (c .before .before .before .before .last-goal .ensures) (c .before .before .before .if1 .left) (c .before .before .before .before .before .before .loop-test .taken) (c .before .before .if2 .taken) (c .nearest .ensures))
+
+element-copy-out-d : tie.Need-element-copy-out-d Inv-loop μ-loop
+element-copy-out-d c = near-asks (c .before .before .before .before .before .before .before .loop .inv) (c .before .before .before .before .last-goal .ensures) (c .before .before .before .if1 .left) (c .before .before .before .before .before .before .loop-test .taken) (c .before .before .if2 .taken) (c .nearest .ensures) .0
+
+join-requires : tie.Need-join-requires Inv-loop μ-loop
+join-requires c κs = near-asks (c .before .before .before .before .before .before .before .before .before .before .before .loop .inv) (c .before .before .before .before .before .before .before .before .last-goal .ensures) (c .before .before .before .before .before .before .before .if1 .left) (c .before .before .before .before .before .before .before .before .before .before .loop-test .taken) (c .before .before .before .before .before .before .if2 .taken) (c .before .before .before .before .nearest .ensures)
+
+add-t : tie.Need-add-t Inv-loop μ-loop
+add-t c = omega (arith, near-asks (c .before .before .before .before .before .before .before .before .before .before .before .before .loop .inv) (c .before .before .before .before .before .before .before .before .before .last-goal .ensures) (c .before .before .before .before .before .before .before .before .if1 .left) (c .before .before .before .before .before .before .before .before .before .before .before .loop-test .taken) (c .before .before .before .before .before .before .before .if2 .taken) (c .before .before .before .before .before .nearest .ensures))
+
+loop-less : tie.Need-loop-less Inv-loop μ-loop
+loop-less c = near-less (c .before .before .before .before .before .before .before .before .before .before .before .before .loop .inv) (c .before .before .before .before .before .before .before .before .before .last-goal .ensures) (c .before .before .before .before .before .before .before .before .if1 .left) (c .before .before .before .before .before .before .before .before .before .before .before .loop-test .taken) (c .before .before .before .before .before .before .before .if2 .taken) (c .before .before .before .before .before .nearest .ensures)
+
+loop-again : tie.Need-loop-again Inv-loop μ-loop
+loop-again c = searching-near (c .before .before .before .before .before .before .before .before .before .before .before .before .loop .inv) (c .before .before .before .before .before .before .before .before .before .last-goal .ensures) (c .before .before .before .before .before .before .before .before .if1 .left) (c .before .before .before .before .before .before .before .before .before .before .before .loop-test .taken) (c .before .before .before .before .before .before .before .if2 .taken) (c .before .before .before .before .before .nearest .ensures) (c .join .ensures)
+
+scan-requires : tie.Need-scan-requires Inv-loop μ-loop
+scan-requires c κs =
+    let p = c .before .before .before .before .before .before .before .before .before .before .before .before .before .pre in
+    (c .before .before .before .before .before .before .before .before .before .before .loop .inv .search, (scan-asks (c .before .before .before .before .before .before .before .before .before .before .loop .inv) (c .before .before .before .before .before .before .before .last-goal .ensures) (c .before .before .before .before .before .before .if1 .left) (c .before .before .before .before .before .before .before .before .before .loop-test .taken) (c .before .before .before .before .before .if2 .left), (p .by-tail, p .by-head)))
+
+add-s : tie.Need-add-s Inv-loop μ-loop
+add-s c = omega (arith, counts (c .before .before .before .before .before .before .before .before .before .before .before .loop .inv), c .before .before .before .before .before .before .before .before .before .before .loop-test .taken)
+
+loop-less-2 : tie.Need-loop-less-2 Inv-loop μ-loop
+loop-less-2 c = scan-less (c .before .before .before .before .before .before .before .before .before .before .before .loop .inv) (c .before .before .before .before .before .before .before .before .last-goal .ensures) (c .before .before .before .before .before .before .before .if1 .left) (c .before .before .before .before .before .before .before .before .before .before .loop-test .taken) (c .before .before .before .before .before .before .if2 .left) (c .scan .ensures)
+
+loop-again-2 : tie.Need-loop-again-2 Inv-loop μ-loop
+loop-again-2 c = searching-scan (c .before .before .before .before .before .before .before .before .before .before .before .loop .inv) (c .before .before .before .before .before .before .before .before .last-goal .ensures) (c .before .before .before .before .before .before .before .if1 .left) (c .before .before .before .before .before .before .before .before .before .before .loop-test .taken) (c .before .before .before .before .before .before .if2 .left) (c .scan .ensures)
+
+returns-2 : tie.Need-returns-2 Inv-loop μ-loop
+returns-2 c = explored-all (c .before .loop .inv) (c .loop-test .left)
+
+pub explore-spec : {M : Type 1} → statement M
+explore-spec =
+    tie.close
+    (tie.spec
+    Inv-loop
+    μ-loop
+    mul-stamp
+    element-write-stamp
+    mul-dist
+    element-write-dist
+    loop-holds
+    last-goal-requires
+    mul-t27
+    array-read-t30
+    returns
+    nearest-requires
+    mul-d
+    element-copy-out-d
+    join-requires
+    add-t
+    loop-less
+    loop-again
+    scan-requires
+    add-s
+    loop-less-2
+    loop-again-2
+    returns-2)

@@ -1,0 +1,23 @@
+-- `reach` meets its contract: a search, and the potential moved by it.
+use borrow.Author.Needs.{needs}
+use mathlib.Core.Path.{refl}
+use lib.ListN.{getD-replicate}
+use Rattle.search.proofs.reach.Statement.{statement}
+use Rattle.search.proofs.reach.Tie as tie
+
+explore-requires : tie.Need-explore-requires
+explore-requires c κs =
+    let p = c .before .before .before .before .before .pre in
+    let q = p .1 .1 .1 .1 in
+    record { network = p .0; potential = p .1 .0; by-tail = p .1 .1 .0; by-head = p .1 .1 .1 .0; sizes = (q .1, refl); inside = q .2; fresh = λ k l. getD-replicate 81 k 8000000 0 l }
+
+returns : tie.Need-returns
+returns c = c .before .before .before .explore .ensures .outcome _ (c .raise .ensures .0) (c .raise .ensures .1)
+
+pub reach-spec : {M : Type 1} → statement M
+reach-spec =
+    tie.close
+    (tie.spec
+    explore-requires
+    (λ c κs. search needs)
+    returns)

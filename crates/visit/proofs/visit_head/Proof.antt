@@ -1,0 +1,25 @@
+-- `visit_head` meets its contract.
+use native.Mathlib.Omega.{arith}
+use borrow.Author.Needs.{needs}
+use Rattle.visit.proofs.visit_head.Statement.{statement}
+use Rattle.visit.proofs.visit_head.Tie as tie
+
+offer-requires : tie.Need-offer-requires
+offer-requires c κs =
+    let p = c .before .before .before .before .before .before .before .before .pre in
+    (p .0 .ends .0, λ l. p .1 (omega (arith, c .before .before .before .before .before .over .ensures, p .0 .slack)))
+
+returns : tie.Need-returns
+returns c = rw (c .before .before .before .before .before .before .over .ensures) at (c .offer .ensures)
+
+pub visit-head-spec : {M : Type 1} → statement M
+visit-head-spec =
+    tie.close
+    (tie.spec
+    (λ c. search needs)
+    (λ c. search needs)
+    (λ c. search needs)
+    (λ c. search needs)
+    (λ c κs. search needs)
+    offer-requires
+    returns)
