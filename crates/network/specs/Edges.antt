@@ -10,7 +10,7 @@ use borrow.Author.Count.{below-more}
 use lib.ListN.{length, set, length-set}
 use lib.Seq.{getD-set-same, getD-set-other}
 use Rattle.network.specs.Network.{Meets}
-use Rattle.network.specs.Stored.{at, tailOf, headOf, costOf, flowOf, stored}
+use Rattle.network.specs.Stored.{at, Beyond, tailOf, headOf, costOf, flowOf, stored}
 
 -- edge e leads from a to b at the biased cost c, and carries no flow
 pub record EdgeIs (net : List ℕ) (e a b c : ℕ) : Type 0 where
@@ -48,9 +48,10 @@ extends-edge {net} {net'} {e} {j} x l h =
       flow = x .before (4 * j + 3) (omega arith) ∙ h .flow;
     }
 
--- edge e is stored
+-- edge e is stored, and nothing past it
 pub record Put (net net' : List ℕ) (e a b c : ℕ) : Type 0 where
   pub extends : Extends net net' e
+  pub past : Beyond net net' (4 * e + 4)
   pub edge : EdgeIs net' e a b c
 
 abbrev pub putEdge : List ℕ → ℕ → ℕ → ℕ → ℕ → List ℕ
@@ -64,6 +65,7 @@ put-is net e a b c l =
             long = simp length-set refl;
             before = λ i lt. other i (λ q. omega arith) (λ q. omega arith) (λ q. omega arith) (λ q. omega arith);
           };
+      past = λ i le. other i (λ q. omega arith) (λ q. omega arith) (λ q. omega arith) (λ q. omega arith);
       edge =
           record {
             tail = off three (4 * e + 3) (4 * e) 0 (λ q. omega arith) ∙ off two (4 * e + 2) (4 * e) c (λ q. omega arith) ∙ off one (4 * e + 1) (4 * e) b (λ q. omega arith) ∙ getD-set-same net (4 * e) a 0 (omega arith);
@@ -95,9 +97,10 @@ pub record Boxes (net : List ℕ) (nodes : ℕ) (low high : ℕ → ℕ) : Type 
   pub down : (v : ℕ) → 0 < v → v < nodes → EdgeIs net (2 * v - 2) v 0 (1000000 - low v)
   pub up : (v : ℕ) → 0 < v → v < nodes → EdgeIs net (2 * v - 1) 0 v (1000000 + high v)
 
--- the boxes of one node are stored
+-- the boxes of one node are stored, and nothing past them
 pub record PutBox (net net' : List ℕ) (v low high : ℕ) : Type 0 where
   pub extends : Extends net net' (2 * v - 2)
+  pub past : Beyond net net' (8 * v)
   pub down : EdgeIs net' (2 * v - 2) v 0 (1000000 - low)
   pub up : EdgeIs net' (2 * v - 1) 0 v (1000000 + high)
 
@@ -105,6 +108,7 @@ pub put-box : {net mid net' : List ℕ} (v low high : ℕ) → 0 < v → Put net
 put-box v low high p x y =
     record {
       extends = extends-trans (omega arith) (x .extends) (y .extends);
+      past = λ i le. y .past i (omega arith) ∙ x .past i (omega arith);
       down = extends-edge (y .extends) (omega arith) (x .edge);
       up = y .edge;
     }

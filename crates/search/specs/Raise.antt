@@ -7,7 +7,7 @@ use native.Mathlib.Omega.{arith}
 use native.Mathlib.Decide.{decLe}
 use lib.ListN.{length, set, length-set}
 use lib.Seq.{getD-set-other}
-use Rattle.network.specs.Stored.{at, tailOf, headOf, costOf, flowOf, Network, Potential, pot-bound}
+use Rattle.network.specs.Stored.{at, Beyond, tailOf, headOf, costOf, flowOf, Network, Potential, pot-bound}
 use Rattle.network.specs.Lists.{by-zero, set-more, zeros-none}
 use Rattle.search.specs.Tree.{Reached}
 use Rattle.visit.specs.Search.{Search}
@@ -28,7 +28,7 @@ pub record Room (pot dist : List ℕ) (d n : ℕ) : Type 0 where
 pub record Shifted (pot₀ pot dist : List ℕ) (d n : ℕ) : Type 0 where
   pub long : length pot ≡ 81
   pub moved : Moved pot₀ pot dist d n
-  pub rest : (k : ℕ) → n ≤ k → at pot k ≡ at pot₀ k
+  pub rest : Beyond pot₀ pot n
 
 pub shifted-more : {pot₀ pot dist : List ℕ} {d n : ℕ} (x : ℕ) → Shifted pot₀ pot dist d n → n < 81
     → x + min (at dist n) d ≡ at pot₀ n + min (at dist 0) d → Shifted pot₀ (set pot n x) dist d (n + 1)

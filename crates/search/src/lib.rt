@@ -5,11 +5,11 @@
 ghost use mathlib.Core.Path.{_≡_};
 ghost use Prim.Native.Nat.{ℕ, _+_, _*_, _-_, _<_, _≤_};
 ghost use lib.ListN.{length};
-ghost use Rattle.network.specs.Stored.{at, Network, Potential};
+ghost use Rattle.network.specs.Stored.{at, Beyond, Network, Potential};
 ghost use Rattle.search.specs.Tree.{Reached};
 ghost use Rattle.search.specs.Nearest.{LeastKey, Nearest};
 ghost use Rattle.network.specs.Index.{Index};
-ghost use Rattle.search.specs.Raise.{Room, Moved};
+ghost use Rattle.search.specs.Raise.{Room, Shifted};
 ghost use Rattle.search.specs.Reach.{Goals, Begins, Explored};
 ghost use Rattle.network.specs.Grow.{Growing};
 ghost use Rattle.search.specs.Admit.{Approached, Fits, Admits};
@@ -44,8 +44,7 @@ fn nearest(key: &[u32; 81]) -> usize
 // Raise the nodes nearer than d by the difference, with the origin kept in place.
 fn raise(pot: &mut [u32; 81], dist: &[u32; 81], nodes: usize, d: u32)
     requires { ⌜ Room (now pot) (now dist) d nodes ⌝ }
-    ensures { λ _. ⌜ length (now (pot .exit)) ≡ 81 ⌝ }
-    ensures { λ _. ⌜ Moved (now (pot .entry)) (now (pot .exit)) (now (dist .entry)) d nodes ⌝ }
+    ensures { λ _. ⌜ Shifted (now (pot .entry)) (now (pot .exit)) (now (dist .entry)) d nodes ⌝ }
 {
     let base = network::least(dist[0], d);
     let mut v = 0;
@@ -166,6 +165,7 @@ pub fn reach(
     requires { ⌜ Index (now net) m (2 * nodes - 2) 1 (now heads) ⌝ }
     requires { ⌜ (length (now stamp) ≡ 81) × (length (now via) ≡ 81) × (root < nodes) ⌝ }
     ensures { λ r. ⌜ Reached (now (net .entry)) m nodes (now (pot .exit)) (now (stamp .exit)) (now (via .exit)) root (now (goal .entry)) r ⌝ }
+    ensures { λ _. ⌜ Beyond (now (pot .entry)) (now (pot .exit)) nodes ⌝ }
 {
     let mut dist = [FAR; 81];
     let found = explore(

@@ -28,7 +28,7 @@ reach-requires c κs =
 returns : tie.Need-returns
 returns c =
     let s = c .before .before .before .before .before .before .before .before .before in
-    approached-search (s .pre .0) _ _ _ (c .reach .ensures) (s .pre .1 .1)
+    approached-search (s .pre .0) _ _ _ (c .reach .ensures .0) (s .pre .1 .1)
 
 returns-2 : tie.Need-returns-2
 returns-2 c = approached-now (c .before .before .before .before .pre .0) (c .if1 .left)

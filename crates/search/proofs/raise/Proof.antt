@@ -61,7 +61,7 @@ loop-again c =
 returns : tie.Need-returns Inv-loop μ-loop
 returns c =
     let h = c .before .loop .inv .1 in
-    (h .long, λ v l. h .moved v (omega arith))
+    record { long = h .long; moved = λ v l. h .moved v (omega arith); rest = λ k l. h .rest k (omega arith) }
 
 pub raise-spec : {M : Type 1} → statement M
 raise-spec =

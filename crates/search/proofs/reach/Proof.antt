@@ -12,7 +12,9 @@ explore-requires c κs =
     record { network = p .0; potential = p .1 .0; by-tail = p .1 .1 .0; by-head = p .1 .1 .1 .0; sizes = (q .1, refl); inside = q .2; fresh = λ k l. getD-replicate 81 k 8000000 0 l }
 
 returns : tie.Need-returns
-returns c = c .before .before .before .explore .ensures .outcome _ (c .raise .ensures .0) (c .raise .ensures .1)
+returns c =
+    let s = c .raise .ensures in
+    (c .before .before .before .explore .ensures .outcome _ (s .long) (s .moved), s .rest)
 
 pub reach-spec : {M : Type 1} → statement M
 reach-spec =
