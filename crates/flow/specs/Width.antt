@@ -3,7 +3,7 @@ use Prim.Native.Nat.{ℕ, suc, _+_, _*_, _-_, _≤_, _<_}
 use mathlib.Core.Path.{_≡_, sym, ap, _∙_}
 use native.Mathlib.Nat.{add-suc, mul-add, mul-le-mul-left}
 use native.Mathlib.Omega.{arith}
-use Rattle.flow.specs.Sum.{sum, sum-cong, sum-mono, sum-add, sum-append, sum-first}
+use Rattle.network.specs.Sum.{sum, sum-cong, sum-mono, sum-add, sum-append, sum-first}
 use Rattle.network.specs.Network.{Net, nodes, lo, hi, Feasible, Ordered, refined}
 
 -- The sum of g i over the events i = 1, .., events.

@@ -7,7 +7,6 @@ use native.Mathlib.Omega.{arith}
 use borrow.Author.Count.{below-none, below-more}
 use lib.ListN.{length, set, replicate, length-set, getD-replicate}
 use lib.Seq.{getD-set-same, getD-set-other}
-use Rattle.network.specs.Lists.{by-zero, set-more}
 use Rattle.network.specs.Stored.{at}
 use Rattle.network.specs.Edges.{EdgeIs, extends-edge, Boxes}
 use Rattle.network.specs.Grow.{Flowless, Growing, boxes-growing}

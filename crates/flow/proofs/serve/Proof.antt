@@ -4,14 +4,14 @@ use Prim.Native.Nat.{_+_, _-_}
 use mathlib.Core.Path.{_≡_, refl}
 use lib.ListN.{length}
 use Rattle.network.specs.Stored.{at}
-use Rattle.flow.specs.Sum.{sum}
+use Rattle.network.specs.Sum.{sum}
 use Rattle.flow.specs.Solve.{Sending, sending-start, sending-place, sending-ready, sending-more, sending-less, sending-next, sending-all}
 use Rattle.flow.proofs.serve.Statement.{statement}
 use Rattle.flow.proofs.serve.Tie as tie
 
 abbrev Inv-loop : tie.InvT-loop
 Inv-loop net₀ m n tails heads pot₀ weight supply₀ demand₀ nodes stamp₀ via₀ i₀ net pot supply demand stamp via i =
-    (length stamp ≡ 81) × (length via ≡ 81) × Sending net₀ net m n tails heads pot weight supply demand i
+    (length stamp ≡ 81) × (length via ≡ 81) × Sending net₀ net m n pot weight supply demand i
 
 abbrev μ-loop : tie.MeasureT-loop
 μ-loop net₀ m n tails heads pot₀ weight supply₀ demand₀ nodes stamp₀ via₀ i₀ net pot supply demand stamp via i = n + 1 - i + sum (n + 1) (at demand)
@@ -23,7 +23,7 @@ add-nodes : tie.Need-add-nodes Inv-loop μ-loop
 add-nodes c = omega (arith, c .before .pre .0 .network .few)
 
 loop-holds : tie.Need-loop-holds Inv-loop μ-loop
-loop-holds c = (refl, refl, sending-start _ _ (c .before .pre .0))
+loop-holds c = (refl, refl, sending-start (c .before .pre .0))
 
 mul-want : tie.Need-mul-want Inv-loop μ-loop
 mul-want c = omega (arith, sending-place (c .before .loop .inv .2) (c .loop-test .taken))

@@ -3,10 +3,10 @@ use borrow.Author.Needs.{needs, scaled-fits, fits-under}
 use lib.Dec.{lit<}
 use mir.Syntax.{w64}
 use lib.ListN.{getD}
-use Rattle.flow.specs.Limit.{node-small}
-use Rattle.flow.specs.Way.{Roaming, roaming-none, roaming-place, roaming-more, roomy}
-use Rattle.flow.proofs.room.Statement.{statement}
-use Rattle.flow.proofs.room.Tie as tie
+use Rattle.edge.specs.Limit.{node-small}
+use Rattle.path.specs.Way.{Roaming, roaming-none, roaming-place, roaming-more, roomy}
+use Rattle.path.proofs.room.Statement.{statement}
+use Rattle.path.proofs.room.Tie as tie
 
 abbrev Inv-loop : tie.InvT-loop
 Inv-loop net m nodes stamp via root start want f₀ cur₀ f cur = Roaming net nodes stamp via start want f cur

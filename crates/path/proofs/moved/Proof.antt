@@ -1,7 +1,7 @@
 -- `moved` meets its contract.
 use borrow.Author.Needs.{needs}
-use Rattle.flow.proofs.moved.Statement.{statement}
-use Rattle.flow.proofs.moved.Tie as tie
+use Rattle.path.proofs.moved.Statement.{statement}
+use Rattle.path.proofs.moved.Tie as tie
 
 sub-result : tie.Need-sub-result
 sub-result c = c .before .pre .2 (c .if1 .left)

@@ -1,5 +1,5 @@
 -- The way from a node to the root, from link to link, and how much flow it has room for: an edge that is walked back gives up flow that it has.
-use Prim.Native.Nat.{ℕ, zero, suc, _+_, _*_, _-_, _≤_, _<_, min}
+use Prim.Native.Nat.{ℕ, zero, suc, _+_, _-_, _≤_, _<_, min}
 use mathlib.Core.Path.{_≡_, refl, sym, ap, _∙_}
 use mathlib.Core.List.{List}
 use mathlib.Core.Logic.{by-cases}
@@ -8,8 +8,8 @@ use native.Mathlib.Decide.{ℕ-discrete, decLt}
 use borrow.Author.Count.{below-more}
 use Rattle.network.specs.Stored.{at, tailOf, headOf, flowOf, Network}
 use Rattle.search.specs.Tree.{Link, Linked}
-use Rattle.flow.specs.Sum.{whenEq, when-is, whenEq-other}
-use Rattle.flow.specs.Limit.{Place, edge-place}
+use Rattle.network.specs.Sum.{whenEq, when-is, whenEq-other}
+use Rattle.edge.specs.Limit.{Place, edge-place}
 
 -- r is the other end of edge e, seen from cur
 pub record Across (net : List ℕ) (e cur r : ℕ) : Type 0 where
