@@ -5,7 +5,7 @@
 ghost use mathlib.Core.Path.{_≡_};
 ghost use Prim.Native.Nat.{ℕ, _+_, _*_, _-_, _<_};
 ghost use lib.ListN.{length};
-ghost use Rattle.network.specs.Stored.{flowOf, Network, Potential};
+ghost use Rattle.network.specs.Stored.{Beyond, flowOf, Network, Potential};
 ghost use Rattle.network.specs.Index.{Index};
 ghost use Rattle.network.specs.Grow.{Flowless};
 ghost use Rattle.flow.specs.Augment.{Ready, Augmented};
@@ -29,6 +29,7 @@ fn augment(
     requires { ⌜ (length (now stamp) ≡ 81) × (length (now via) ≡ 81) ⌝ }
     ensures { λ r. ⌜ Augmented (now (net .entry)) (now (net .exit)) m nodes (now (pot .exit)) root (now (supply .entry)) (now (supply .exit)) want r ⌝ }
     ensures { λ _. ⌜ (length (now (stamp .exit)) ≡ 81) × (length (now (via .exit)) ≡ 81) ⌝ }
+    ensures { λ _. ⌜ Beyond (now (pot .entry)) (now (pot .exit)) nodes ⌝ }
 {
     let v = search::reach(net, m, nodes, tails, heads, pot, stamp, via, root, supply);
     path::push(net, m, nodes, stamp, via, root, v, supply, want)
@@ -41,6 +42,7 @@ fn widen(net: &[u32], m: usize, n: usize, heads: &[u32; 400], pot: &mut [u32; 81
     requires { ⌜ Index (now net) m (2 * (2 * n + 1) - 2) 1 (now heads) ⌝ }
     requires { ⌜ ((e : ℕ) → e < m → flowOf (now net) e ≡ 0) ⌝ }
     ensures { λ _. ⌜ Potential (now (net .entry)) m (now (pot .exit)) ⌝ }
+    ensures { λ _. ⌜ Beyond (now (pot .entry)) (now (pot .exit)) (2 * n + 1) ⌝ }
 {
     let nodes = 2 * n + 1;
     let mut i = 1;
@@ -89,6 +91,7 @@ fn serve(
     requires { ⌜ Index (now net) m (2 * (2 * n + 1) - 2) 1 (now heads) ⌝ }
     requires { ⌜ Weights n (now weight) ⌝ }
     ensures { λ _. ⌜ Sent (now (net .entry)) (now (net .exit)) m n (now (pot .exit)) (now (weight .entry)) ⌝ }
+    ensures { λ _. ⌜ Beyond (now (pot .entry)) (now (pot .exit)) (2 * n + 1) ⌝ }
 {
     let nodes = 2 * n + 1;
     let mut stamp = [0usize; 81];
@@ -132,6 +135,7 @@ fn send(
     requires { ⌜ Index (now net) m (2 * (2 * n + 1) - 2) 1 (now heads) ⌝ }
     requires { ⌜ Weights n (now weight) ⌝ }
     ensures { λ _. ⌜ Sent (now (net .entry)) (now (net .exit)) m n (now (pot .exit)) (now (weight .entry)) ⌝ }
+    ensures { λ _. ⌜ Beyond (now (pot .entry)) (now (pot .exit)) (2 * n + 1) ⌝ }
 {
     let mut supply = *weight;
     let mut demand = *weight;
@@ -163,6 +167,7 @@ fn lower(
     requires { ⌜ Index (now net) m (2 * nodes - 2) 0 (now tails) ⌝ }
     requires { ⌜ Index (now net) m (2 * nodes - 2) 1 (now heads) ⌝ }
     ensures { λ _. ⌜ Lowered (now (net .entry)) m nodes (now (pot .exit)) ⌝ }
+    ensures { λ _. ⌜ Beyond (now (pot .entry)) (now (pot .exit)) nodes ⌝ }
 {
     let mut stamp = [0usize; 81];
     let mut via = [0usize; 81];
@@ -186,7 +191,7 @@ pub fn solve(net: &mut [u32], m: usize, n: usize, pot: &mut [u32; 81], weight: &
     requires { ⌜ Flowless (now net) m (2 * n + 1) (now pot) ⌝ }
     requires { ⌜ Spans (now net) m n ⌝ }
     requires { ⌜ Weights n (now weight) ⌝ }
-    ensures { λ _. ⌜ Solved (now (net .entry)) (now (net .exit)) m n (now (pot .exit)) (now (weight .entry)) ⌝ }
+    ensures { λ _. ⌜ Solved (now (net .entry)) (now (net .exit)) m n (now (pot .entry)) (now (pot .exit)) (now (weight .entry)) ⌝ }
 {
     let nodes = 2 * n + 1;
     let base = 2 * nodes - 2;

@@ -10,7 +10,7 @@ reach-requires c κs =
     (p .0, (p .1 .0, (p .1 .1 .0, (p .1 .1 .1, (refl, refl, p .0 .some)))))
 
 returns : tie.Need-returns
-returns c = record { stamp = _; via = _; goal = _; end = c .reach .result; reached = c .reach .ensures .0; none = zeros-at 81 }
+returns c = (record { stamp = _; via = _; goal = _; end = c .reach .result; reached = c .reach .ensures .0; none = zeros-at 81 }, c .reach .ensures .1)
 
 pub lower-spec : {M : Type 1} → statement M
 lower-spec = tie.close (tie.spec reach-requires returns)

@@ -1,9 +1,9 @@
--- `serve` meets its contract. The invariant: the events before i want no more. Each turn sends some units or passes to the next event.
+-- `serve` meets its contract. The invariant: the events before i want no more, and what stands past the nodes' times is as it was. Each turn sends some units or passes to the next event.
 use native.Mathlib.Omega.{arith}
-use Prim.Native.Nat.{_+_, _-_}
-use mathlib.Core.Path.{_≡_, refl}
+use Prim.Native.Nat.{_+_, _*_, _-_}
+use mathlib.Core.Path.{_≡_, refl, _∙_}
 use lib.ListN.{length}
-use Rattle.network.specs.Stored.{at}
+use Rattle.network.specs.Stored.{at, Beyond}
 use Rattle.network.specs.Sum.{sum}
 use Rattle.flow.specs.Solve.{Sending, sending-start, sending-place, sending-ready, sending-more, sending-less, sending-next, sending-all}
 use Rattle.flow.proofs.serve.Statement.{statement}
@@ -11,7 +11,7 @@ use Rattle.flow.proofs.serve.Tie as tie
 
 abbrev Inv-loop : tie.InvT-loop
 Inv-loop net₀ m n tails heads pot₀ weight supply₀ demand₀ nodes stamp₀ via₀ i₀ net pot supply demand stamp via i =
-    (length stamp ≡ 81) × (length via ≡ 81) × Sending net₀ net m n pot weight supply demand i
+    (length stamp ≡ 81) × (length via ≡ 81) × Sending net₀ net m n pot weight supply demand i × Beyond pot₀ pot (2 * n + 1)
 
 abbrev μ-loop : tie.MeasureT-loop
 μ-loop net₀ m n tails heads pot₀ weight supply₀ demand₀ nodes stamp₀ via₀ i₀ net pot supply demand stamp via i = n + 1 - i + sum (n + 1) (at demand)
@@ -23,7 +23,7 @@ add-nodes : tie.Need-add-nodes Inv-loop μ-loop
 add-nodes c = omega (arith, c .before .pre .0 .network .few)
 
 loop-holds : tie.Need-loop-holds Inv-loop μ-loop
-loop-holds c = (refl, refl, sending-start (c .before .pre .0))
+loop-holds c = (refl, refl, sending-start (c .before .pre .0), λ k l. refl)
 
 mul-want : tie.Need-mul-want Inv-loop μ-loop
 mul-want c = omega (arith, sending-place (c .before .loop .inv .2) (c .loop-test .taken))
@@ -51,7 +51,8 @@ loop-less c = sending-less (c .before .before .before .before .before .before .b
 loop-again : tie.Need-loop-again Inv-loop μ-loop
 loop-again c =
     let r = c .before .before .before .before .augment .ensures in
-    (r .1 .0, r .1 .1, sending-more (c .before .before .before .before .before .before .before .before .before .before .before .before .before .loop .inv .2) (r .0) (c .take .ensures))
+    let h = c .before .before .before .before .before .before .before .before .before .before .before .before .before .loop .inv in
+    (r .1 .0 .0, r .1 .0 .1, sending-more (h .2) (r .0) (c .take .ensures), λ k l. r .1 .1 k l ∙ h .3 k l)
 
 add-i : tie.Need-add-i Inv-loop μ-loop
 add-i c = omega (arith, sending-place (c .before .before .before .loop .inv .2) (c .before .before .loop-test .taken))
@@ -62,13 +63,13 @@ loop-less-2 c = omega (arith, c .before .before .loop-test .taken)
 loop-again-2 : tie.Need-loop-again-2 Inv-loop μ-loop
 loop-again-2 c =
     let h = c .before .before .before .loop .inv in
-    (h .0, h .1, sending-next (h .2) (c .before .before .loop-test .taken) (omega (arith, c .if1 .left)))
+    (h .0, h .1, sending-next (h .2) (c .before .before .loop-test .taken) (omega (arith, c .if1 .left)), h .3)
 
 same-length : tie.Need-same-length Inv-loop μ-loop
 same-length c = c .before .loop .inv .2 .long
 
 returns : tie.Need-returns Inv-loop μ-loop
-returns c = sending-all (c .before .loop .inv .2) (omega (arith, c .loop-test .left))
+returns c = (sending-all (c .before .loop .inv .2) (omega (arith, c .loop-test .left)), c .before .loop .inv .3)
 
 pub serve-spec : {M : Type 1} → statement M
 serve-spec =
