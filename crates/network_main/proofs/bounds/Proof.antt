@@ -19,7 +19,7 @@ loop-holds c = let p = c .before .pre in (omega arith, omega arith, bounded-none
 loop-again : tie.Need-loop-again Inv-loop μ-loop
 loop-again c =
     let i = c .before .before .before .before .before .loop in
-    (omega arith, omega arith, bounded-more _ _ (i .inv .2) (omega arith) (omega arith) (c .least2 .ensures .1) (c .before .before .least .ensures .1))
+    (omega arith, omega arith, bounded-more _ _ (i .inv .2) (omega arith) (omega arith) (omega (arith, c .least2 .ensures)) (omega (arith, c .before .before .least .ensures)))
 
 returns : tie.Need-returns Inv-loop μ-loop
 returns c =

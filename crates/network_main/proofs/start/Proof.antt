@@ -16,7 +16,7 @@ returns : tie.Need-returns
 returns c =
     let p = c .before .before .before .before .before .before .before .before .before .before .before .pre in
     let B = c .before .before .boxes .ensures in
-    built-start (p .0) (B .0 ∙ p .1) (B .1) (c .before .before .before .before .before .before .bounds .ensures)
+    built-start (p .0) (B .0 ∙ p .1) (B .1 .0) (c .before .before .before .before .before .before .bounds .ensures)
 
 pub start-spec : {M : Type 1} → statement M
 start-spec =

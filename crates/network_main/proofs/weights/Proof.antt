@@ -17,7 +17,7 @@ loop-holds : tie.Need-loop-holds Inv-loop μ-loop
 loop-holds c = (omega arith, c .before .pre .1)
 
 loop-again : tie.Need-loop-again Inv-loop μ-loop
-loop-again c = (omega arith, weights-more _ (c .before .before .before .loop .inv .1) (omega arith) (c .least .ensures .1))
+loop-again c = (omega arith, weights-more _ (c .before .before .before .loop .inv .1) (omega arith) (omega (arith, c .least .ensures)))
 
 returns : tie.Need-returns Inv-loop μ-loop
 returns c =
