@@ -1,4 +1,4 @@
--- The tree by which nodes are reached: every reached node but the root is linked to one that was reached before it.
+-- The tree by which nodes are reached: every reached node but the root is linked to one that was reached before it. A node is reached where its stamp is above 0.
 use Prim.Native.Nat.{ℕ, _<_, _≤_}
 use mathlib.Core.Path.{_≡_}
 use mathlib.Core.List.{List}

@@ -1,4 +1,4 @@
--- Visiting the edges at the node w that is scanned.
+-- Visiting an edge at the node w that is scanned, or the two box edges between w and another node.
 use Prim.Native.Nat.{ℕ, _+_, _*_, _-_, _≤_, _<_}
 use mathlib.Core.Path.{_≡_, refl, sym, ap, _∙_}
 use mathlib.Core.List.{List}
