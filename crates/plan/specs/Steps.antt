@@ -23,7 +23,8 @@ use Rattle.ticket.specs.Writing.{content, stateOf, over, recordWritten, recordO
 use Rattle.ticket.specs.declared.Written.{Written}
 use Rattle.ticket.specs.declared.Ticket.{Ticket as Struct}
 use Rattle.ticket.specs.declared.Record.{Record}
-use Rattle.windows.specs.Arrays.{windowList, stateIn, in-events, in-rules, Lie, Room, Within, Planned, Committed}
+use Rattle.potentials.specs.Arrays.{windowList, in-events, in-rules, Lie, Within}
+use Rattle.windows.specs.Promises.{stateIn, Room, Planned, Committed}
 use Rattle.windows.specs.Settle.{Asked}
 use Rattle.plan.specs.Structs.{Past, zeros-past, within-past, set-past, Kept, kept-few, kept-lies, kept-written, flag-of, open-of, close-of}
 use Rattle.plan.specs.declared.Answer.{Answer}

@@ -1,9 +1,9 @@
 -- A record that the code hands on is Kept: it is the struct of the readable state that it says, with zeros past its counts.
--- What a struct says is `ticket`'s `content` and `stateOf`; of its arrays alone `windows` says it.
+-- What a struct says is `ticket`'s `content` and `stateOf`; of its arrays alone `potentials` says it.
 use mathlib.Core.Path.{_≡_, refl, sym, ap, subst, _∙_}
 use mathlib.Core.Bool.{Bool, true, false}
 use mathlib.Core.List.{List, [], _∷_, map, _++_}
-use Prim.Native.Nat.{ℕ, zero, suc, _-_, _≤_, _<_}
+use Prim.Native.Nat.{ℕ, _-_, _≤_, _<_}
 use native.Mathlib.Omega.{arith}
 use lib.Dec.{eqb}
 use mathlib.Core.Logic.{_⊎_, inl, inr}
@@ -15,13 +15,14 @@ use Rattle.temporal.specs.Ticket.{Window, events, origin}
 use Rattle.temporal.specs.Plan.{State, flagged}
 use Rattle.temporal.specs.Run.{Readable}
 use Rattle.network.specs.Stored.{at}
+use Rattle.network.specs.Lists.{zeros-at}
 use Rattle.ticket.specs.Parser.{got}
 use Rattle.ticket.specs.RoundTrip.{flags-small}
 use Rattle.ticket.specs.Agree.{field-at, content-stored, state-stored, readable-written}
 use Rattle.ticket.specs.Writing.{content, stateOf, over, told, left, writingRecord, recordWritten, recordOutput}
 use Rattle.ticket.specs.Stored.{pad, stored, storedState}
 use Rattle.ticket.specs.Writer.{flagByte, writeState}
-use Rattle.windows.specs.Arrays.{windowList, flagList, window-at, flag-at, in-events, Lie, Within}
+use Rattle.potentials.specs.Arrays.{windowList, flagList, window-at, flag-at, in-events, Lie, Within}
 use Rattle.ticket.specs.declared.Record.{Record}
 
 -- ---- an array of 40 numbers, 0 past the first n
@@ -29,11 +30,6 @@ use Rattle.ticket.specs.declared.Record.{Record}
 pub record Past (n : ℕ) (xs : List ℕ) : Type 0 where
   pub long : length xs ≡ 40
   pub zero-past : (i : ℕ) → n ≤ i → at xs i ≡ 0
-
-zeros-at : (m i : ℕ) → at (replicate m 0) i ≡ 0
-zeros-at zero i = refl
-zeros-at (suc m) zero = refl
-zeros-at (suc m) (suc i) = zeros-at m i
 
 pub zeros-past : (n : ℕ) → Past n (replicate 40 0)
 zeros-past n = record { long = refl; zero-past = λ i l. zeros-at 40 i }

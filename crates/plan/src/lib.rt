@@ -134,7 +134,7 @@ fn cause(r: ticket::Record, event: u32, opens: u32, closes: u32) -> u32
     let flags = r.flags;
     let firsts = r.opens;
     let lasts = r.closes;
-    let fit = windows::fit(t, &firsts, &lasts);
+    let fit = fitness::fit(t, &firsts, &lasts);
     let n = t.events as u32;
     let committed = flag_at(&flags, event);
     let leaves = outside(
@@ -159,7 +159,7 @@ fn write_out(r: ticket::Record, out: &mut [u8]) -> Answer
     let t = r.ticket;
     let opens = r.opens;
     let closes = r.closes;
-    let total = windows::total(t, &opens, &closes);
+    let total = fitness::total(t, &opens, &closes);
     let written = ticket::write_record(r, out);
     Answer {
         number: 0,

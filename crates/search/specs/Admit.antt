@@ -10,7 +10,7 @@ use native.Mathlib.Nat.{lt-suc-self}
 use native.Mathlib.Decide.{ℕ-discrete, decLt}
 use lib.ListN.{length, set, replicate}
 use lib.Seq.{getD-set-other}
-use Rattle.network.specs.Lists.{zeros-at}
+use Rattle.network.specs.Lists.{differ, zeros-at}
 use Rattle.network.specs.Network.{Meets}
 use Rattle.network.specs.Stored.{at, tailOf, headOf, flowOf, stored}
 use Rattle.network.specs.Edges.{Extends, Put}
@@ -96,9 +96,6 @@ pub record Admits (net net' : List ℕ) (m nodes : ℕ) (pot tails heads : List 
   pub put : Put net net' m a b c
   pub admitted : r ≡ true → Growing net' (m + 1) nodes pot tails heads
   pub refused : r ≡ false → Growing net' m nodes pot tails heads × Impossible net m a b c
-
-differ : {A : Type 0} → true ≡ false → A
-differ e = absurd (let x : _≡_ {A = ℕ} 0 1 = cc in omega arith)
 
 module _ {net net' : List ℕ} {m nodes : ℕ} {pot tails heads : List ℕ} {a b c : ℕ} (P : Put net net' m a b c) (A : Approached net' m nodes pot tails heads a b c) where
   pub admits-yes : {tails' heads' : List ℕ} (place : ℕ) → Fits net m nodes a b c → at pot b + 1000000 ≤ at pot a + c → place ≡ 81 + (m + 2 - 2 * nodes)

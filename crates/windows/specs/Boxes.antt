@@ -3,21 +3,27 @@
 use mathlib.Core.Path.{_≡_, _∙_}
 use mathlib.Core.Bool.{Bool, true, false, cond}
 use mathlib.Core.List.{List}
+use lib.ListN.{length}
 use Prim.Native.Nat.{ℕ, zero, suc, _+_, _*_, _≤_, _<_}
 use native.Mathlib.Omega.{arith}
 use Rattle.temporal.specs.Lists.{All, below-All}
 use Rattle.temporal.specs.Ticket as temporal
-use Rattle.temporal.specs.Ticket.{events, Window, origin}
+use Rattle.temporal.specs.Ticket.{Window, origin}
 use Rattle.temporal.specs.Ends.{Ends, Lies}
 use Rattle.temporal.specs.Best.{Chosen, chosen-under}
 use Rattle.temporal.specs.Plan.{flagged}
 use Rattle.temporal.specs.FitSets.{KeepsAt, Grows}
 use Rattle.ticket.specs.declared.Ticket.{Ticket}
 use Rattle.ticket.specs.Writing.{content}
-use Rattle.windows.specs.Arrays.{in-events, Given}
-use Rattle.windows.specs.Nodes.{by-nodes, potentialOf, potential-open, potential-close}
-use Rattle.windows.specs.Rules.{ends-obeyed, obeyed-ends}
-use Rattle.windows.specs.Network.{Allowed}
+use Rattle.potentials.specs.Arrays.{in-events, Given}
+use Rattle.potentials.specs.Nodes.{by-nodes, potentialOf, potential-open, potential-close}
+use Rattle.demands.specs.Rules.{ends-obeyed, obeyed-ends}
+use Rattle.demands.specs.Network.{Meeting}
+
+-- n windows within the boxes that keep the rules
+pub record Allowed (t : Ticket) (low high : ℕ → ℕ) (ws : List Window) : Type 0 where
+  pub count : length ws ≡ t .events
+  pub meeting : Meeting t low high (potentialOf (t .events) ws)
 
 module _ {t : Ticket} (G : Given t) (low high : ℕ → ℕ) (ws : List Window) where
   ends-allowed : Ends (content t) ws

@@ -1,13 +1,7 @@
--- Planning and commitment on a ticket's struct: windows and schedules as potentials of difference networks.
--- The contracts of the public functions stand in src/lib.rt and cite Arrays (what they ask and leave), Settle (Asked) and temporal's definitions.
-pub mod Arrays
-pub mod Nodes
-pub mod Rules
-pub mod Network
+-- What crate windows rests on. To believe the contracts of its public functions read Promises (Room, `Planned`, `Committed`) and in Settle the record Asked;
+-- they are said with temporal's `plan` and `commit`. The rest are laws.
+-- Widest .potential-chosen: the best potential gives the best windows. Boxes .free-chosen, kept-chosen: those within the boxes are the plan's, and the commitment's.
+pub mod Promises
 pub mod Boxes
-pub mod Pairs
-pub mod Cost
-pub mod Total
-pub mod Fit
-pub mod Schedule
+pub mod Widest
 pub mod Settle

@@ -22,13 +22,14 @@ use Rattle.network.specs.Lists.{zeros-at}
 use Rattle.network.specs.Stored.{at}
 use Rattle.ticket.specs.declared.Ticket.{Ticket}
 use Rattle.ticket.specs.Writing.{content}
-use Rattle.windows.specs.Arrays.{windowList, flagList, stateIn, firsts-set, length-flag-list, in-events, window-at, flag-at, Given, Lie, Within}
-use Rattle.windows.specs.Nodes.{closeNode, close-self, by-nodes, potentialOf}
-use Rattle.windows.specs.Rules.{timesOf, schedule-timed, timed-schedule}
-use Rattle.windows.specs.Network.{Meeting, meeting-same, Limits, Allowed}
-use Rattle.windows.specs.Boxes.{Free, free-top, free-chosen, Kept, cond-most, grows-allowed, kept-chosen, allowed-lies}
-use Rattle.windows.specs.Schedule.{Decided}
-use Rattle.windows.specs.Pairs.{Pairs, Limited, pairs-potential, replicate-most}
+use Rattle.potentials.specs.Arrays.{windowList, flagList, firsts-set, length-flag-list, in-events, window-at, flag-at, Given, Lie, Within}
+use Rattle.potentials.specs.Nodes.{closeNode, close-self, by-nodes, potentialOf}
+use Rattle.potentials.specs.Pairs.{Pairs, Limited, pairs-potential, replicate-most}
+use Rattle.demands.specs.Network.{Meeting, meeting-same, Limits}
+use Rattle.schedule.specs.Times.{timesOf, schedule-timed, timed-schedule}
+use Rattle.schedule.specs.Schedule.{Decided}
+use Rattle.windows.specs.Promises.{stateIn}
+use Rattle.windows.specs.Boxes.{Allowed, Free, free-top, free-chosen, Kept, cond-most, grows-allowed, kept-chosen, allowed-lies}
 
 -- boxes and a potential within them that keeps the rules
 pub record Started (t : Ticket) (low high : ℕ → ℕ) (pot : List ℕ) : Type 0 where

@@ -2,7 +2,7 @@
 use native.Mathlib.Omega.{arith}
 use mathlib.Core.Path.{refl}
 use lib.ListN.{length-set}
-use Rattle.windows.specs.Arrays.{valid-given}
+use Rattle.potentials.specs.Arrays.{valid-given}
 use Rattle.windows.specs.Settle.{asked-event, asked-ends, ends-lie, commit-answer, asked-within}
 use Rattle.windows.proofs.commit_window.Statement.{statement}
 use Rattle.windows.proofs.commit_window.Tie as tie

@@ -1,9 +1,9 @@
 -- `plan_windows` meets its contract, by those of `schedule` and `place`.
 use native.Mathlib.Omega.{arith}
 use mathlib.Core.Path.{sym, _∙_}
-use Rattle.windows.specs.Arrays.{valid-given, within-same}
-use Rattle.windows.specs.Rules.{differ}
-use Rattle.windows.specs.Schedule.{low-zeros, decided-found}
+use Rattle.potentials.specs.Arrays.{valid-given, within-same}
+use Rattle.network.specs.Lists.{differ}
+use Rattle.schedule.specs.Schedule.{low-zeros, decided-found}
 use Rattle.windows.specs.Settle.{plan-answer, plan-lies, plan-none}
 use Rattle.windows.proofs.plan_windows.Statement.{statement}
 use Rattle.windows.proofs.plan_windows.Tie as tie

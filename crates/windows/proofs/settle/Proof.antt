@@ -1,8 +1,9 @@
 -- `settle` meets its contract, by those of its parts.
 use native.Mathlib.Omega.{arith}
 use mathlib.Core.Path.{_∙_}
-use Rattle.windows.specs.Network.{built-flowless, built-spans, potential-chosen}
-use Rattle.windows.specs.Pairs.{read-windows}
+use Rattle.demands.specs.Network.{built-flowless}
+use Rattle.windows.specs.Widest.{built-spans, potential-chosen}
+use Rattle.potentials.specs.Pairs.{read-windows}
 use Rattle.windows.proofs.settle.Statement.{statement}
 use Rattle.windows.proofs.settle.Tie as tie
 

@@ -1,6 +1,6 @@
 -- `widen` meets its contract, by those of its parts.
 use mathlib.Core.Path.{refl}
-use Rattle.windows.specs.Pairs.{limited}
+use Rattle.potentials.specs.Pairs.{limited}
 use Rattle.windows.specs.Settle.{commit-started, commit-chosen}
 use Rattle.windows.proofs.widen.Statement.{statement}
 use Rattle.windows.proofs.widen.Tie as tie

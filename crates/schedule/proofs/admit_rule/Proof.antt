@@ -1,0 +1,45 @@
+-- `admit_rule` meets its contract, by that of `admit`.
+use native.Mathlib.Omega.{arith}
+use borrow.Author.Needs.{needs}
+use mir.Syntax.{w32}
+use mir.ValLaws.{toZ-ofZ}
+use Rattle.demands.specs.Rules.{biased-most}
+use Rattle.schedule.proofs.admit_rule.Statement.{statement}
+use Rattle.schedule.proofs.admit_rule.Tie as tie
+
+cost-requires : tie.Need-cost-requires
+cost-requires c κs = rw (toZ-ofZ w32 (c .before .before .before .before .before .before .before .args .bound) (c .before .before .before .before .before .before .before .fits .bound)) (c .before .before .before .before .before .before .before .pre .1 .0 .high, c .before .before .before .before .before .before .before .pre .1 .0 .deep)
+
+admit-requires : tie.Need-admit-requires
+admit-requires c κs =
+    let s = c .before .before .before .before .before .before .before .before in
+    let small = s .pre .1 .0 in (
+      s .pre .0,
+      record {
+        size = s .pre .1 .1 .2;
+        room = omega arith;
+        tail = omega (arith, c .before .before .wide .ensures, small .from-point);
+        head = omega (arith, c .before .wide2 .ensures, small .to-point);
+        cost = rw (c .cost .ensures, toZ-ofZ w32 (s .args .bound) (s .fits .bound)) (biased-most (s .args .bound) (small .high));
+      },
+    )
+
+same-length : tie.Need-same-length
+same-length c = c .before .before .admit .ensures .put .extends .long
+
+returns : tie.Need-returns
+returns c = rw (c .before .before .before .before .before .wide .ensures, c .before .before .before .before .wide2 .ensures, c .before .before .before .cost .ensures, toZ-ofZ w32 (c .before .before .before .before .before .before .before .before .before .before .before .args .bound) (c .before .before .before .before .before .before .before .before .before .before .before .fits .bound)) at (c .before .before .admit .ensures)
+
+pub admit-rule-spec : {M : Type 1} → statement M
+admit-rule-spec =
+    tie.close
+    (tie.spec
+    (λ c. search needs)
+    (λ c. search needs)
+    (λ c. search needs)
+    (λ c κs. search needs)
+    (λ c κs. search needs)
+    cost-requires
+    admit-requires
+    same-length
+    returns)

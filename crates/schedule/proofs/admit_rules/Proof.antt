@@ -1,0 +1,75 @@
+-- `admit_rules` meets its contract. The invariant: the rules below j are in the network, and the times keep them.
+use native.Mathlib.Omega.{arith}
+use Prim.Native.Nat.{_-_, _≤_, _<_}
+use mathlib.Core.Path.{_≡_, _∙_}
+use lib.ListN.{length}
+use Rattle.demands.specs.Rules.{given-small, given-bound}
+use Rattle.schedule.specs.Schedule.{Tried, tried-more, tried-none, tried-timed, decided-yes, decided-no}
+use borrow.Author.Needs.{needs}
+use Rattle.schedule.proofs.admit_rules.Statement.{statement}
+use Rattle.schedule.proofs.admit_rules.Tie as tie
+
+abbrev Inv-loop : tie.InvT-loop
+Inv-loop net₀ tails₀ heads₀ times₀ t j₀ net tails heads times j = (j ≤ t .rules) × Tried net (length net₀) t times tails heads j
+
+abbrev μ-loop : tie.MeasureT-loop
+μ-loop net₀ tails₀ heads₀ times₀ t j₀ net tails heads times j = t .rules - j
+
+loop-holds : tie.Need-loop-holds Inv-loop μ-loop
+loop-holds c = (omega arith, c .before .pre .1 .1)
+
+admit-rule-requires : tie.Need-admit-rule-requires Inv-loop μ-loop
+admit-rule-requires c κs =
+    let G = c .before .before .before .before .before .before .before .before .before .before .pre .0 in
+    let j = c .before .before .before .before .before .before .before .before .loop .j in
+    let lj : j < c .before .before .before .before .before .before .before .before .before .before .args .t2 .rules = omega arith in
+    let T = c .before .before .before .before .before .before .before .before .loop .inv .1 in
+    (T .growing, (rw (given-bound G j lj) (given-small G j lj), (G .few, omega (arith, G .most), omega (arith, T .long))))
+
+loop-again : tie.Need-loop-again Inv-loop μ-loop
+loop-again c =
+    let G = c .before .before .before .before .before .before .before .before .before .before .before .before .before .before .pre .0 in
+    let j = c .before .before .before .before .before .before .before .before .before .before .before .before .loop .j in
+    let lj : j < c .before .before .before .before .before .before .before .before .before .before .before .before .before .before .args .t2 .rules = omega arith in
+    (omega arith, tried-more (c .before .before .before .before .before .before .before .before .before .before .before .before .loop .inv .1) (rw (given-bound G j lj) at (c .before .before .before .admit-rule .ensures)) (c .if1 .taken))
+
+same-length : tie.Need-same-length Inv-loop μ-loop
+same-length c = c .before .before .before .admit-rule .ensures .put .extends .long ∙ c .before .before .before .before .before .before .before .before .before .before .before .before .loop .inv .1 .long
+
+returns : tie.Need-returns Inv-loop μ-loop
+returns c =
+    let G = c .before .before .before .before .before .before .before .before .before .before .before .before .before .before .pre .0 in
+    let j = c .before .before .before .before .before .before .before .before .before .before .before .before .loop .j in
+    let lj : j < c .before .before .before .before .before .before .before .before .before .before .before .before .before .before .args .t2 .rules = omega arith in (
+      decided-no (tried-none (c .before .before .before .before .before .before .before .before .before .before .before .before .loop .inv .1) (rw (given-bound G j lj) at (c .before .before .before .admit-rule .ensures)) lj (c .if1 .left)),
+      c .before .before .before .admit-rule .ensures .put .extends .long ∙ c .before .before .before .before .before .before .before .before .before .before .before .before .loop .inv .1 .long,
+    )
+
+same-length-2 : tie.Need-same-length-2 Inv-loop μ-loop
+same-length-2 c = c .before .loop .inv .1 .long
+
+returns-2 : tie.Need-returns-2 Inv-loop μ-loop
+returns-2 c =
+    let e : c .before .loop .j ≡ c .before .before .before .args .t2 .rules = omega arith in
+    let T = c .before .loop .inv .1 in
+    (decided-yes (T .growing .flowless .potential .long) (tried-timed (rw e at T)), T .long)
+
+pub admit-rules-spec : {M : Type 1} → statement M
+admit-rules-spec =
+    tie.close
+    (tie.spec
+    Inv-loop
+    μ-loop
+    loop-holds
+    (λ c. search needs)
+    (λ c. search needs)
+    (λ c. search needs)
+    (λ c. search needs)
+    admit-rule-requires
+    (λ c. search needs)
+    (λ c. search needs)
+    loop-again
+    same-length
+    returns
+    same-length-2
+    returns-2)
