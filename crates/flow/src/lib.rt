@@ -1,6 +1,6 @@
 // The widest potential of a difference network, and of the widest the least: by a flow that proves it.
 // Event i of 1 to n has a lo node, i, and a hi node, n + i: its weight runs from lo nodes to its hi node over edges with no slack.
-// Rests on crates network, which stores the edges, search, which searches among them, edge for single edges, and path for the paths that are found.
+// Rests on crates network, which stores the edges, search, which searches among them, edge for single edges, warm for the potential to start from, and path for the paths that are found.
 
 ghost use mathlib.Core.Path.{_≡_};
 ghost use Prim.Native.Nat.{ℕ, _+_, _*_, _-_, _<_};
@@ -33,25 +33,6 @@ fn augment(
 {
     let v = search::reach(net, m, nodes, tails, heads, pot, stamp, via, root, supply);
     path::push(net, m, nodes, stamp, via, root, v, supply, want)
-}
-
-// Raise each hi node as far as it can: no flow runs yet.
-fn widen(net: &[u32], m: usize, n: usize, heads: &[u32; 400], pot: &mut [u32; 81])
-    requires { ⌜ Network (now net) m (2 * n + 1) ⌝ }
-    requires { ⌜ Potential (now net) m (now pot) ⌝ }
-    requires { ⌜ Index (now net) m (2 * (2 * n + 1) - 2) 1 (now heads) ⌝ }
-    requires { ⌜ ((e : ℕ) → e < m → flowOf (now net) e ≡ 0) ⌝ }
-    ensures { λ _. ⌜ Potential (now (net .entry)) m (now (pot .exit)) ⌝ }
-    ensures { λ _. ⌜ Beyond (now (pot .entry)) (now (pot .exit)) (2 * n + 1) ⌝ }
-{
-    let nodes = 2 * n + 1;
-    let mut i = 1;
-    while i <= n {
-        let v = n + i;
-        let x = edge::height(net, m, nodes, heads, pot, v);
-        pot[v] = x;
-        i += 1;
-    }
 }
 
 // A first flow: over each edge with no slack from a lo node to a hi node, as much as both ends want.
@@ -199,7 +180,7 @@ pub fn solve(net: &mut [u32], m: usize, n: usize, pot: &mut [u32; 81], weight: &
     let mut heads = [0u32; 400];
     network::list_edges(net, m, base, 0, &mut tails);
     network::list_edges(net, m, base, 1, &mut heads);
-    widen(net, m, n, &heads, pot);
+    warm::widen(net, m, n, &tails, &heads, pot);
     send(net, m, n, &tails, &heads, pot, weight);
     lower(net, m, nodes, &tails, &heads, pot);
 }

@@ -1,0 +1,2 @@
+-- What crate warm rests on: its contracts are about crate network's Potential alone. Widen .raised-potential: a node that rises keeps a potential.
+pub mod Widen
