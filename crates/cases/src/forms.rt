@@ -1,5 +1,5 @@
 // Reading and writing tickets and records.
-// Rests on crate `ticket`.
+// Rests on the crates `reading`, `reading_records`, `writing` and `writing_records`, and on the structs of `ticket`.
 ghost use Prim.Native.Nat.{_≤_};
 ghost use lib.ListN.{length};
 use crate::lent;
@@ -22,7 +22,7 @@ fn write_ticket(t: Ticket, input: &[u8], room: usize) -> bool
     requires { ⌜ room ≤ 2048 ⌝ }
 {
     let mut out = lent::output();
-    let w = ticket::write_ticket(t, &mut out[..room]);
+    let w = writing::write_ticket(t, &mut out[..room]);
     say_written(w, input, &out)
 }
 
@@ -30,7 +30,7 @@ fn write_record(r: Record, input: &[u8], room: usize) -> bool
     requires { ⌜ room ≤ 2048 ⌝ }
 {
     let mut out = lent::output();
-    let w = ticket::write_record(r, &mut out[..room]);
+    let w = writing_records::write_record(r, &mut out[..room]);
     say_written(w, input, &out)
 }
 
@@ -38,7 +38,7 @@ fn write_record(r: Record, input: &[u8], room: usize) -> bool
 
 // The input as a ticket.
 fn read_ticket(input: &[u8]) -> bool {
-    let r = ticket::read_ticket(input);
+    let r = reading::read_ticket(input);
     print::number(r.number);
     if r.number == 0 {
         write_ticket(r.ticket, input, 2048)
@@ -49,7 +49,7 @@ fn read_ticket(input: &[u8]) -> bool {
 
 // The input as a record.
 fn read_record(input: &[u8]) -> bool {
-    let r = ticket::read_record(input);
+    let r = reading_records::read_record(input);
     print::number(r.number);
     if r.number == 0 {
         write_record(r.plan, input, 2048)
@@ -68,9 +68,9 @@ pub fn read(input: &[u8]) {
 
 fn number(as_record: bool, s: &[u8]) -> u32 {
     if as_record {
-        ticket::read_record(s).number
+        reading_records::read_record(s).number
     } else {
-        ticket::read_ticket(s).number
+        reading::read_ticket(s).number
     }
 }
 

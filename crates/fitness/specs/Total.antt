@@ -1,4 +1,4 @@
--- The weighted total of windows in arrays, as a sum over the events. Rests on temporal's total and flow's sums.
+-- The weighted total of windows in arrays, as a sum over the events. Rests on temporal's total and network's sums.
 use Prim.Native.Nat.{ℕ, suc, _+_, _*_, _-_, _≤_}
 use mathlib.Core.Path.{_≡_, refl, ap, _∙_, sym}
 use mathlib.Core.List.{List, [], _∷_}

@@ -1,5 +1,5 @@
 // Whether windows are fit, and what they count: the test on window ends, the weights of the events, and the weighted total.
-// Rests on `ticket` for the struct, on `temporal` for fitness and weights, on `potentials` and `demands` for the rules over nodes, and on `flow` for sums and weights.
+// Rests on `ticket` for the struct, on `temporal` for fitness and weights, on `potentials` and `demands` for the rules over nodes, and on `network` for sums, and on `flow` for what weights it asks for.
 
 ghost use mathlib.Core.Path.{_≡_};
 ghost use Prim.Native.Nat.{_*_, _-_, _≤_};

@@ -87,16 +87,16 @@ pub extern "C" fn harness_rewrite_ticket(ticket: &[u8], out: &mut [u8], size: &m
     ensures { λ _. ⌜ now (size .exit) ≡ rewriting 1584 readTicket (now (ticket .entry)) (now (out .entry)) .length ⌝ }
 {
     *size = 0;
-    if out.len() < 1584 {
+    if out.len() < ticket::TICKET_BYTES {
         return 10;
     }
-    let read = ticket::read_ticket(ticket);
+    let read = reading::read_ticket(ticket);
     let number = read.number;
     if number != 0 {
         return number;
     }
     let t = read.ticket;
-    let written = ticket::write_ticket(t, out);
+    let written = writing::write_ticket(t, out);
     let n = written.length;
     *size = narrow(n);
     written.number
@@ -109,16 +109,16 @@ pub extern "C" fn harness_rewrite_record(record: &[u8], out: &mut [u8], size: &m
     ensures { λ _. ⌜ now (size .exit) ≡ rewriting 1948 readState (now («record» .entry)) (now (out .entry)) .length ⌝ }
 {
     *size = 0;
-    if out.len() < 1948 {
+    if out.len() < ticket::RECORD_BYTES {
         return 10;
     }
-    let read = ticket::read_record(record);
+    let read = reading_records::read_record(record);
     let number = read.number;
     if number != 0 {
         return number;
     }
     let p = read.plan;
-    let written = ticket::write_record(p, out);
+    let written = writing_records::write_record(p, out);
     let n = written.length;
     *size = narrow(n);
     written.number
@@ -204,7 +204,7 @@ pub extern "C" fn harness_write_ticket(
         to: t,
         bound: b,
     };
-    let written = ticket::write_ticket(ticket, out);
+    let written = writing::write_ticket(ticket, out);
     let n = written.length;
     *size = narrow(n);
     written.number

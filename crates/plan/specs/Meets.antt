@@ -21,7 +21,7 @@ use Rattle.ticket.specs.Writer.{writeState}
 use Rattle.ticket.specs.Writing.{content, stateOf, over}
 use Rattle.ticket.specs.Stored.{stored, answer, storedState, planned, wholeTicket, wholeRecord}
 use Rattle.ticket.specs.RoundTrip.{Bytes, written-read, written-read-state}
-use Rattle.ticket.specs.Answers.{was-refused, was-got}
+use Rattle.ticket.specs.Laws.{was-refused, was-got}
 use Rattle.ticket.specs.declared.ReadTicket.{ReadTicket}
 use Rattle.ticket.specs.declared.ReadRecord.{ReadRecord}
 use Rattle.plan.specs.Zeroed.{past, zeroed-rest}

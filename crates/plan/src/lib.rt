@@ -160,7 +160,7 @@ fn write_out(r: ticket::Record, out: &mut [u8]) -> Answer
     let opens = r.opens;
     let closes = r.closes;
     let total = fitness::total(t, &opens, &closes);
-    let written = ticket::write_record(r, out);
+    let written = writing_records::write_record(r, out);
     Answer {
         number: 0,
         length: written.length,
@@ -196,7 +196,7 @@ fn plan_bytes(ticket: &[u8], out: &mut [u8], scratch: &mut [u32]) -> Answer
     requires { ⌜ (1948 ≤ length (now out)) × (8192 ≤ length (now scratch)) ⌝ }
     ensures { λ a. ⌜ Meets (afterReading (now (out .entry)) (now (scratch .entry)) plan (wholly readTicket (now (ticket .entry)))) (now (scratch .entry)) a (now (out .exit)) (now (scratch .exit)) ⌝ }
 {
-    let read = ticket::read_ticket(ticket);
+    let read = reading::read_ticket(ticket);
     if read.number != 0 {
         return refusal(read.number);
     }
@@ -286,7 +286,7 @@ fn commit_bytes(
     requires { ⌜ (1948 ≤ length (now out)) × (8192 ≤ length (now scratch)) ⌝ }
     ensures { λ a. ⌜ Meets (afterReading (now (out .entry)) (now (scratch .entry)) (λ (s : State). commit s (asking event opens closes)) (wholly readState (now («record» .entry)))) (now (scratch .entry)) a (now (out .exit)) (now (scratch .exit)) ⌝ }
 {
-    let read = ticket::read_record(record);
+    let read = reading_records::read_record(record);
     if read.number != 0 {
         return refusal(read.number);
     }

@@ -150,7 +150,7 @@ pub fn print(ticket: &[u8], text: &mut [u8]) -> usize
         return put_refusal(text, number);
     }
     let n = answer.length;
-    let read = ticket::read_record(&out[..n]);
+    let read = reading_records::read_record(&out[..n]);
     let plan = read.plan;
     put_plan(text, plan, answer.total)
 }

@@ -1,4 +1,4 @@
--- `harness::harness_write_ticket` meets its contract: what `ticket::write_ticket` ensures of the struct of the values, with its length in 32 bits. Assumes nothing.
+-- `harness::harness_write_ticket` meets its contract: what `writing::write_ticket` ensures of the struct of the values, with its length in 32 bits. Assumes nothing.
 use mathlib.Core.Path.{ap, _∙_}
 use borrow.Author.Needs.{needs}
 use Rattle.ticket.specs.Writing.{writtenOf, outputOf}

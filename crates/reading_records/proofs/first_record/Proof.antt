@@ -1,0 +1,82 @@
+-- `reading_records::first_record` meets its contract. Each return is one part of the parser. Assumes nothing.
+use Prim.Native.Nat.{_≤_}
+use mathlib.Core.Path.{_≡_, refl, sym, ap, _∙_}
+use native.Mathlib.Omega.{arith}
+use lib.ListN.{length, drop, length-map}
+use Rattle.temporal.specs.Ticket.{Ticket}
+use Rattle.ticket.specs.Parser.{got}
+use Rattle.ticket.specs.Format.{size, Entry, readTicket, readPlan}
+use Rattle.ticket.specs.Stored.{stored, answer, noRecord, planned}
+use Rattle.reading_records.specs.Parts.{planAt}
+use Rattle.ticket.specs.Laws.{was-refused}
+use Rattle.reading_records.specs.Answers.{windows-refused, windows-done}
+use Rattle.reading_records.specs.Rest.{plan-length}
+use Rattle.ticket.specs.Stages.{bad-ticket, bad-plan, whole-state}
+use Rattle.reading_records.specs.Whole.{ticket-done, assembled-record}
+use borrow.Author.Needs.{needs}
+use Rattle.reading_records.proofs.first_record.Statement.{statement}
+use Rattle.reading_records.proofs.first_record.Tie as tie
+
+-- What is known once the ticket is read.
+ticket-known : (c : tie.After-ticket)
+    → (t : Ticket)
+    × (readTicket (c .before .before .before .before .args .s .now) ≡ got t (drop (c .before .before .first-ticket .result .next) (c .before .before .before .before .args .s .now)))
+    × (c .before .before .first-ticket .result .ticket ≡ stored t)
+    × (c .before .before .first-ticket .result .next ≡ size t)
+    × (c .before .before .first-ticket .result .next ≤ length (c .before .before .before .before .args .s .now))
+    × (length (t .owners) ≤ 40)
+ticket-known c =
+    let r = c .before .before .first-ticket in
+    ticket-done (c .before .before .before .before .args .s .now) (r .result) (λ i. omega (arith, c .before .before .before .shared-slice-known .given i)) (r .ensures) (c .before .if1 .left)
+
+-- What comes after it is read for that ticket.
+plan-known : (c : tie.After-plan-at) → let t = ticket-known (c .before) .0 in
+    c .plan-at .result ≡ planAt (c .before .before .before .before .before .args .s .now) (c .before .before .before .first-ticket .result .next) (length (t .owners)) (t .horizon)
+plan-known c =
+    c .plan-at .ensures
+    ∙ ap (λ y. planAt (c .before .before .before .before .before .args .s .now) (c .before .before .before .first-ticket .result .next) (y .events) (y .horizon)) (ticket-known (c .before) .2)
+
+returns : tie.Need-returns
+returns c =
+    let s = c .before .before .before .before .args .s .now in
+    let r = c .before .before .first-ticket in
+    let e = was-refused (λ y. y .number) (answer 0) (λ x v. refl) (λ k. refl) (readTicket s) (r .result) (r .ensures) (c .before .if1 .taken) in
+    c .refused-record .ensures ∙ ap noRecord (e .2) ∙ ap (planned 0) (sym (bad-ticket s (e .0) (e .1)))
+
+plan-at-requires : tie.Need-plan-at-requires
+plan-at-requires c κs =
+    let t = ticket-known c in
+    (t .4, omega (arith, t .5, ap (λ y. y .events) (t .2)))
+
+returns-2 : tie.Need-returns-2
+returns-2 c =
+    let s = c .before .before .before .before .before .before .before .args .s .now in
+    let t = ticket-known (c .before .before .before) in
+    let e = windows-refused (readPlan (length (t .0 .owners)) (t .0 .horizon) (drop (c .before .before .before .before .before .first-ticket .result .next) s)) (c .before .before .plan-at .result) (plan-known (c .before .before)) (c .before .if2 .taken) in
+    c .refused-record2 .ensures ∙ ap noRecord (e .2) ∙ ap (planned 0) (sym (bad-plan s (t .0) _ (t .1) (e .0) (e .1)))
+
+returns-3 : tie.Need-returns-3
+returns-3 c =
+    let s = c .before .before .before .before .before .before .before .before .before .before .args .s .now in
+    let t = ticket-known (c .before .before .before .before .before .before) in
+    let n = length (t .0 .owners) in
+    let w = windows-done (readPlan n (t .0 .horizon) (drop (c .before .before .before .before .before .before .before .before .first-ticket .result .next) s)) (c .before .before .before .before .before .plan-at .result) (plan-known (c .before .before .before .before .before)) (c .before .before .before .before .if2 .left) in
+    let es = w .0 in
+    assembled-record _ _ (c .before .before .before .before .before .plan-at .result) (t .0) es (w .1) (t .2) (w .3)
+    (omega (arith, t .3, ap (λ y. y .events) (t .2), plan-length n (t .0 .horizon) _ es (w .1) (w .2), length-map es (λ (y : Entry). y .window)))
+    ∙ ap (planned 0) (sym (whole-state s (t .0) _ (t .1) es (w .1) (w .2)))
+
+pub first-record-spec : {M : Type 1} → statement M
+first-record-spec =
+    tie.close
+    (tie.spec
+    (λ c κs. search needs)
+    (λ c κs. search needs)
+    returns
+    plan-at-requires
+    (λ c κs. search needs)
+    returns-2
+    (λ c. omega (arith, ticket-known (c .before .before .before .before .before .before) .4))
+    (λ c. let t = ticket-known (c .before .before .before .before .before .before) in omega (arith, t .5, ap (λ y. y .events) (t .2)))
+    (λ c. let t = ticket-known (c .before .before .before .before .before .before) in omega (arith, t .4, t .5, ap (λ y. y .events) (t .2)))
+    returns-3)

@@ -1,0 +1,37 @@
+-- `writing_records::put_plan` meets its contract. The three parts lie one after the other. Assumes nothing.
+use Prim.Native.Nat.{_+_, _*_}
+use mathlib.Core.Path.{ap, _∙_}
+use lib.Seq.{sets}
+use Rattle.ticket.specs.Writer.{bytes, each, writeWindow}
+use Rattle.ticket.specs.Writing.{firsts, entryIn}
+use Rattle.writing_records.specs.Stores.{sets-plan}
+use borrow.Author.Needs.{needs}
+use Rattle.writing_records.proofs.put_plan.Statement.{statement}
+use Rattle.writing_records.proofs.put_plan.Tie as tie
+
+same-length : tie.Need-same-length
+same-length c = c .before .before .put-u162 .kept .0 ∙ c .before .before .before .before .before .before .put-windows .kept .1 .0 ∙ c .before .before .before .before .before .before .before .before .before .before .put-u16 .kept .0
+
+returns : tie.Need-returns
+returns c =
+    let a = c .before .before .before .before .before .before .before .before .before .before .before .before .before .before .args in
+    let n = a .r .ticket .events in
+    c .before .before .put-u162 .ensures
+    ∙ ap (λ l. sets l (a .at + 2 + 9 * n) (bytes 2 (a .r .number)))
+    (c .before .before .before .before .before .before .put-windows .ensures ∙ ap (λ l. sets l (a .at + 2) (each writeWindow (firsts n (entryIn (a .r))))) (c .before .before .before .before .before .before .before .before .before .before .put-u16 .ensures))
+    ∙ sets-plan (a .out .now) (a .r) (a .at)
+
+pub put-plan-spec : {M : Type 1} → statement M
+put-plan-spec =
+    tie.close
+    (tie.spec
+    (λ c. search needs)
+    (λ c κs. search needs)
+    (λ c. search needs)
+    (λ c κs. search needs)
+    (λ c. search needs)
+    (λ c. search needs)
+    (λ c. search needs)
+    (λ c κs. search needs)
+    same-length
+    returns)

@@ -1,0 +1,80 @@
+-- `writing_records::test_record` meets its contract. Each return is one stage of the tests. Assumes nothing.
+use Prim.Native.Nat.{_≤_}
+use mathlib.Core.Path.{_≡_, sym, ap, _∙_}
+use mathlib.Core.List.{[]}
+use Rattle.ticket.specs.Parser.{got, number}
+use Rattle.ticket.specs.Writing.{tests, testTicket, testWindow, verdict}
+use Rattle.ticket.specs.WritingLaws.{verdict-refused, verdict-passed, ticket-fixed, tests-fixed, window-test-fixed}
+use Rattle.ticket.specs.WriteStages.{ticket-fails, windows-fail, number-fails, record-passes}
+use Rattle.ticket.specs.Agree.{tested-valid}
+use borrow.Author.Needs.{needs}
+use Rattle.writing_records.proofs.test_record.Statement.{statement}
+use Rattle.writing_records.proofs.test_record.Tie as tie
+
+-- The ticket's tests are passed, so its events are few enough.
+passed : (c : tie.Else1) → testTicket (c .before .before .before .args .r .ticket) [] ≡ got tt []
+passed c =
+    let k = c .before .test-ticket in
+    let t = c .before .before .before .args .r .ticket in
+    verdict-passed (testTicket t) (ticket-fixed t) [] (k .result) (k .ensures) (c .if1 .left)
+
+few : (c : tie.Else1) → c .before .before .before .args .r .ticket .events ≤ 40
+few c = tested-valid (c .before .before .before .args .r .ticket) [] tt [] (passed c) .1
+
+-- The windows' tests are passed.
+windows-passed : (c : tie.Else2) → tests (c .before .before .before .before .before .args .r .ticket .events) (testWindow (c .before .before .before .before .before .args .r)) [] ≡ got tt []
+windows-passed c =
+    let k = c .before .test-windows in
+    let r = c .before .before .before .before .before .args .r in
+    verdict-passed (tests (r .ticket .events) (testWindow r)) (tests-fixed (testWindow r) [] (window-test-fixed r) (r .ticket .events)) [] (k .result) (k .ensures)
+    (c .if2 .left)
+
+test-ticket-requires : tie.Need-test-ticket-requires
+test-ticket-requires c κs = search needs
+
+returns : tie.Need-returns
+returns c =
+    let r = c .before .before .before .args .r in
+    let k = c .before .test-ticket in
+    let no = verdict-refused (testTicket (r .ticket) []) (k .result) (k .ensures) (c .if1 .taken) in
+    no .2 ∙ ap verdict (sym (ticket-fails r (no .0) (no .1)))
+
+test-windows-requires : tie.Need-test-windows-requires
+test-windows-requires c κs = few c
+
+returns-2 : tie.Need-returns-2
+returns-2 c =
+    let r = c .before .before .before .before .before .args .r in
+    let k = c .before .test-windows in
+    let no = verdict-refused (tests (r .ticket .events) (testWindow r) []) (k .result) (k .ensures) (c .if2 .taken) in
+    no .2 ∙ ap verdict (sym (windows-fail r (passed (c .before .before)) (no .0) (no .1)))
+
+set-flags-requires : tie.Need-set-flags-requires
+set-flags-requires c κs = few (c .before .before)
+
+returns-3 : tie.Need-returns-3
+unfolding number
+returns-3 c =
+    let e = c .before .before .before in
+    let r = e .before .before .before .before .before .args .r in
+    let k = c .before .before .set-flags in
+    ap verdict (sym (number-fails r (passed (e .before .before)) (windows-passed e) (λ q. c .if3 .taken (sym (q ∙ sym (k .ensures))))))
+
+returns-4 : tie.Need-returns-4
+returns-4 c =
+    let e = c .before .before .before in
+    let r = e .before .before .before .before .before .args .r in
+    let k = c .before .before .set-flags in
+    ap verdict (sym (record-passes r (passed (e .before .before)) (windows-passed e) (sym (c .if3 .left) ∙ k .ensures)))
+
+pub test-record-spec : {M : Type 1} → statement M
+test-record-spec =
+    tie.close
+    (tie.spec
+    test-ticket-requires
+    returns
+    test-windows-requires
+    returns-2
+    set-flags-requires
+    returns-3
+    returns-4)

@@ -1,0 +1,173 @@
+// Writes records. A refusal answers its number and 0, and leaves the output as it was.
+// Rests on crate ticket, which has the structs and the bytes that the contracts name, and on crate writing, which writes the record's ticket.
+ghost use mathlib.Core.Path.{_≡_};
+ghost use Prim.Native.Nat.{ℕ, _+_, _*_, _≤_, _<_};
+ghost use lib.Dec.{eqb};
+ghost use lib.ListN.{length};
+ghost use lib.Seq.{sets};
+ghost use mathlib.Core.List.{[]};
+ghost use Rattle.temporal.specs.Run.{setFlags};
+ghost use Rattle.ticket.specs.Writer.{each, flagByte, windowBytes, writeWindow, writeState};
+ghost use Rattle.ticket.specs.Writing.{firsts, tests, flagIn, entryIn, stateOf, testWindow, testRecord, verdict, Storable, recordWritten, recordOutput};
+ghost use Rattle.writing_records.specs.Parts.{flagged, planBytes};
+use ticket::RECORD_BYTES;
+use ticket::Record;
+use ticket::Written;
+
+// A window with its flag.
+struct WindowIn {
+    flag: u8,
+    opens: u32,
+    closes: u32,
+}
+
+// The window at i of r, with its flag.
+fn window_in(r: Record, i: usize) -> WindowIn
+    requires { ⌜ i < 40 ⌝ }
+    ensures { λ w. ⌜ w ≡ flagged r i ⌝ }
+{
+    let flag = r.flags[i];
+    let opens = r.opens[i];
+    let closes = r.closes[i];
+    WindowIn {
+        flag,
+        opens,
+        closes,
+    }
+}
+
+// The first cause among the windows of r, or 0.
+fn test_windows(r: Record) -> u32
+    requires { ⌜ r .ticket .events ≤ 40 ⌝ }
+    ensures { λ k. ⌜ k ≡ verdict (tests (r .ticket .events) (testWindow r) []) ⌝ }
+{
+    let n = r.ticket.events;
+    let h = r.ticket.horizon;
+    let mut i = 0;
+    while i < n {
+        let w = window_in(r, i);
+        let k = ticket::window_cause(h, w.flag, w.opens, w.closes);
+        if k != 0 {
+            return k;
+        }
+        i += 1;
+    }
+    0
+}
+
+// 1 for a flag that is set, 0 for any other.
+fn one(flag: u8) -> u32
+    ensures { λ r. ⌜ (r ≡ flagByte (eqb flag 1)) × (r ≤ 1) ⌝ }
+{
+    if flag == 1 { 1 } else { 0 }
+}
+
+// The number of set flags of r.
+fn set_flags(r: Record) -> u32
+    requires { ⌜ r .ticket .events ≤ 40 ⌝ }
+    ensures { λ k. ⌜ k ≡ setFlags (stateOf r .flags) ⌝ }
+{
+    let n = r.ticket.events;
+    let mut count = 0;
+    let mut i = 0;
+    while i < n {
+        let f = r.flags[i];
+        count += one(f);
+        i += 1;
+    }
+    count
+}
+
+// The first cause in r, or 0.
+fn test_record(r: Record) -> u32
+    ensures { λ k. ⌜ k ≡ verdict (testRecord r []) ⌝ }
+{
+    let t = r.ticket;
+    let k = writing::test_ticket(t);
+    if k != 0 {
+        return k;
+    }
+    let l = test_windows(r);
+    if l != 0 {
+        return l;
+    }
+    if set_flags(r) != r.number {
+        return 14;
+    }
+    0
+}
+
+// A window with its flag, at `at`.
+fn put_window(out: &mut [u8], at: usize, flag: u8, opens: u32, closes: u32)
+    requires { ⌜ at + 9 ≤ length (now out) ⌝ }
+    ensures { λ _. ⌜ now (out .exit) ≡ sets (now (out .entry)) at (windowBytes flag opens closes) ⌝ }
+{
+    out[at] = flag;
+    writing::put_u32(out, at + 1, opens);
+    writing::put_u32(out, at + 5, closes);
+}
+
+// The windows of r at `at`.
+fn put_windows(r: Record, out: &mut [u8], at: usize)
+    requires { ⌜ (r .ticket .events ≤ 40) × ((i : ℕ) → i < r .ticket .events → flagIn r i ≤ 1) × (at + 9 * r .ticket .events ≤ length (now out)) ⌝ }
+    ensures { λ _. ⌜ now (out .exit) ≡ sets (now (out .entry)) at (each writeWindow (firsts (r .ticket .events) (entryIn r))) ⌝ }
+{
+    let n = r.ticket.events;
+    let mut i = 0;
+    while i < n {
+        let w = window_in(r, i);
+        put_window(out, at + 9 * i, w.flag, w.opens, w.closes);
+        i += 1;
+    }
+}
+
+// What comes after the ticket of r, at `at`.
+fn put_plan(r: Record, out: &mut [u8], at: usize)
+    requires { ⌜ Storable r ⌝ }
+    requires { ⌜ at + 4 + 9 * r .ticket .events ≤ length (now out) ⌝ }
+    ensures { λ _. ⌜ now (out .exit) ≡ sets (now (out .entry)) at (planBytes r) ⌝ }
+{
+    let n = r.ticket.events;
+    let number = r.number as usize;
+    writing::put_u16(out, at, n);
+    put_windows(r, out, at + 2);
+    writing::put_u16(out, at + 2 + 9 * n, number);
+}
+
+// The bytes of r at the start of out.
+fn put_record(r: Record, out: &mut [u8])
+    requires { ⌜ Storable r ⌝ }
+    requires { ⌜ 1948 ≤ length (now out) ⌝ }
+    ensures { λ _. ⌜ now (out .exit) ≡ sets (now (out .entry)) 0 (writeState (stateOf r)) ⌝ }
+{
+    let t = r.ticket;
+    writing::put_ticket(t, out);
+    put_plan(r, out, 8 + t.events + 6 * t.rules);
+}
+
+// The record at the start of out.
+pub fn write_record(r: Record, out: &mut [u8]) -> Written
+    ensures { λ w. ⌜ w ≡ recordWritten (now (out .entry)) r ⌝ }
+    ensures { λ w. ⌜ now (out .exit) ≡ recordOutput (now (out .entry)) r ⌝ }
+{
+    if out.len() < RECORD_BYTES {
+        return Written {
+            number: 10,
+            length: 0,
+        };
+    }
+    let k = test_record(r);
+    if k != 0 {
+        return Written {
+            number: k,
+            length: 0,
+        };
+    }
+    put_record(r, out);
+    let n = r.ticket.events;
+    let m = r.ticket.rules;
+    Written {
+        number: 0,
+        length: 12 + 10 * n + 6 * m,
+    }
+}
