@@ -1,12 +1,10 @@
 // Tables of distances. The input has the horizon, the number of events and that of rules, four bytes each, and the rules, six bytes each.
-// Rests on crate `table`.
+// Rests on crates `table`, `script` and `forms`.
 ghost use Prim.Native.Nat.{_≤_};
 ghost use mathlib.Core.Path.{_≡_};
 ghost use lib.ListN.{length};
-use crate::forms;
-use crate::lent;
-use crate::print;
-use crate::script;
+use script::lent;
+use script::print;
 
 fn numbers() -> [i32; 1700]
     ensures { λ r. ⌜ 1700 ≡ length r ⌝ }

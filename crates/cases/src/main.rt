@@ -1,16 +1,14 @@
 // Runs the cases of the script on standard input, a line each, and prints for each its name and what the call answers; "memory" follows where a
 // byte or a number is not what it must be after the call. The script says at its top how its lines are read.
-// Rests on `script` for the lines and on `forms`, `distances` and `planning` for the calls.
+// Rests on crate `script` for the lines and on crate `forms`, `distances` and `planning` for the calls.
 mod distances;
-mod forms;
-mod lent;
 mod planning;
-mod print;
-mod script;
 
 ghost use Prim.Native.Nat.{_≤_};
 ghost use lib.ListN.{length};
-use lent::State;
+use script::lent;
+use script::lent::State;
+use script::print;
 
 // Numbers of the calls `commit` and `lend` have four bytes where the script says nothing, those of others one.
 fn usual(letter: u8) -> usize {

@@ -1,11 +1,10 @@
 // Plannings and commitments.
-// Rests on crate `plan`.
+// Rests on crates `plan` and `script`.
 ghost use Prim.Native.Nat.{_≤_};
-use crate::lent;
-use crate::lent::State;
-use crate::print;
-use crate::script;
 use plan::Answer;
+use script::lent;
+use script::lent::State;
+use script::print;
 
 // These two drop what the calls promise, so that what follows them costs no proof.
 fn plan_once(ticket: &[u8], out: &mut [u8], scratch: &mut [u32]) -> Answer {

@@ -6,8 +6,8 @@ ghost use lib.ListN.{length};
 ghost use lib.IntN.{pos};
 ghost use Rattle.ticket.specs.Format.{readTicket, readState};
 ghost use Rattle.ticket.specs.Writing.{writtenOf, outputOf};
-ghost use Rattle.table.specs.Table.{tableOf};
-ghost use Rattle.table.specs.Rules.{rulesOf};
+ghost use Rattle.temporal.specs.Table.{tableOf};
+ghost use Rattle.table.specs.Lent.{rulesOf};
 ghost use Rattle.runs.specs.Calls.{planning, committing};
 ghost use Rattle.harness.specs.Rewriting.{rewriting};
 ghost use Rattle.harness.specs.Values.{placed, valued};
@@ -33,11 +33,11 @@ pub extern "C" fn harness_plan(
     ensures { λ _. ⌜ now (size .exit) ≡ Rewriting·narrow (planning (now (ticket .entry)) (now (out .entry)) (now (scratch .entry)) .length) ⌝ }
     ensures { λ _. ⌜ now (sum .exit) ≡ planning (now (ticket .entry)) (now (out .entry)) (now (scratch .entry)) .total ⌝ }
 {
-    let answer = plan::plan(ticket, out, scratch);
-    let n = answer.length;
+    let planned = plan::plan(ticket, out, scratch);
+    let n = planned.length;
     *size = narrow(n);
-    *sum = answer.total;
-    answer.number
+    *sum = planned.total;
+    planned.number
 }
 
 #[no_mangle]
@@ -57,11 +57,11 @@ pub extern "C" fn harness_commit(
     ensures { λ _. ⌜ now (size .exit) ≡ Rewriting·narrow (committing (now («record» .entry)) event «open» close (now (out .entry)) (now (scratch .entry)) .length) ⌝ }
     ensures { λ _. ⌜ now (sum .exit) ≡ committing (now («record» .entry)) event «open» close (now (out .entry)) (now (scratch .entry)) .total ⌝ }
 {
-    let answer = plan::commit(record, event, open, close, out, scratch);
-    let n = answer.length;
+    let committed = plan::commit(record, event, open, close, out, scratch);
+    let n = committed.length;
     *size = narrow(n);
-    *sum = answer.total;
-    answer.number
+    *sum = committed.total;
+    committed.number
 }
 
 #[no_mangle]
@@ -124,18 +124,12 @@ pub extern "C" fn harness_rewrite_record(record: &[u8], out: &mut [u8], size: &m
     written.number
 }
 
-fn lesser(a: usize, b: usize) -> usize
-    ensures { λ r. ⌜ r ≡ min a b ⌝ }
-{
-    if a < b { a } else { b }
-}
-
 // The first 40 numbers of s, then zeros; and so the first 256.
 fn owner_places(s: &[u8]) -> [u8; 40]
     ensures { λ r. ⌜ r ≡ placed 0 40 (now (s .entry)) ⌝ }
 {
     let mut places = [0u8; 40];
-    let n = lesser(s.len(), 40);
+    let n = table::lesser(s.len(), 40);
     let mut i = 0;
     while i < n {
         places[i] = s[i];
@@ -148,7 +142,7 @@ fn point_places(s: &[u8]) -> [u8; 256]
     ensures { λ r. ⌜ r ≡ placed 0 256 (now (s .entry)) ⌝ }
 {
     let mut places = [0u8; 256];
-    let n = lesser(s.len(), 256);
+    let n = table::lesser(s.len(), 256);
     let mut i = 0;
     while i < n {
         places[i] = s[i];
@@ -161,7 +155,7 @@ fn bound_places(s: &[i32]) -> [i32; 256]
     ensures { λ r. ⌜ r ≡ placed (pos 0) 256 (now (s .entry)) ⌝ }
 {
     let mut places = [0i32; 256];
-    let n = lesser(s.len(), 256);
+    let n = table::lesser(s.len(), 256);
     let mut i = 0;
     while i < n {
         let c = s[i];

@@ -9,8 +9,7 @@ use lib.ListN.{length, getD, set}
 use lib.Seq.{getD-set-same, getD-set-other}
 use Rattle.temporal.specs.Lists.{tab, tab-cong}
 use Rattle.temporal.specs.Ticket as temporal
-use Rattle.table.specs.Table.{ruleOf}
-use Rattle.table.specs.Rules.{flatAt, rulesOf}
+use Rattle.table.specs.Lent.{ruleOf, flatAt, rulesOf}
 use Rattle.table.specs.declared.Rule.{Rule}
 use Rattle.table.specs.declared.RuleArrays.{RuleArrays}
 

@@ -5,7 +5,7 @@ use Prim.Native.Nat.{_-_, _≤_}
 use mathlib.Core.Path.{_≡_, refl}
 use borrow.Author.Needs.{sfits-of}
 use mir.Facts.{toZ-ofZ}
-use Rattle.table.specs.Rules.{flatAt}
+use Rattle.table.specs.Lent.{flatAt}
 use Rattle.table.specs.Gather.{Gathered, gathered-none, gathered-more}
 use Rattle.table.proofs.copied.Statement.{statement}
 use Rattle.table.proofs.copied.Tie as tie

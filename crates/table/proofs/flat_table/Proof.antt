@@ -7,12 +7,13 @@ use borrow.Author.Needs.{needs}
 use lib.ListN.{length}
 use Rattle.temporal.specs.Ticket.{Rule}
 use Rattle.temporal.specs.Run.{Valid}
-use Rattle.table.specs.Table.{ticketOf, rulesCause}
-use Rattle.table.specs.Causes.{cause-room, cause-horizon, cause-events, cause-count, cause-rules, cause-last, rules-valid, ticket-valid, refuses, accepts}
-use Rattle.table.specs.Matrix.{entry, Everywhere}
-use Rattle.table.specs.Start.{start}
-use Rattle.table.specs.Rules.{rulesOf, rulesOf-length, valid-arrays}
-use Rattle.table.specs.Answers.{start-floors, start-top, closed-small, closed-consistent, closed-distance, closed-none, written-filled}
+use Rattle.temporal.specs.Table.{ticketOf, rulesCause}
+use Rattle.temporal.specs.TableCauses.{cause-room, cause-horizon, cause-events, cause-count, cause-rules, cause-last, rules-valid, ticket-valid, refuses, accepts}
+use Rattle.closure.specs.Matrix.{entry, Everywhere}
+use Rattle.closure.specs.Start.{start}
+use Rattle.table.specs.Lent.{rulesOf}
+use Rattle.table.specs.Rules.{rulesOf-length, valid-arrays}
+use Rattle.closure.specs.Answers.{start-floors, start-top, closed-small, closed-consistent, closed-distance, closed-none, written-filled}
 use Rattle.table.proofs.flat_table.Statement.{statement}
 use Rattle.table.proofs.flat_table.Tie as tie
 

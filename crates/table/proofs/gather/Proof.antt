@@ -2,7 +2,7 @@
 -- Of the functions that it calls the proof knows only that they meet their contracts. The loop goes by `loop-rule`, with the rules left for the variant.
 -- Assumes nothing.
 use mathlib.Core.Path.{_≡_, refl, sym, ap, _∙_}
-use mathlib.Core.Bool.{Bool, true}
+use mathlib.Core.Bool.{Bool}
 use mathlib.Core.List.{List, [], _∷_, map}
 use Prim.Native.Nat.{ℕ, zero, suc, _+_, _*_, _≤_, _<_, _^_}
 use native.Mathlib.Omega.{arith}
@@ -48,8 +48,7 @@ use denote.Triple.Spec.{Meets, tripleOf}
 use denote.Triple.Table.{entered, cited}
 use denote.Triple.Walked.{says, Stays, stay-none-slice, walkOf, goes-none-slice, Walks, ends-at, walked, walk-meets}
 use denote.Exit.{yes}
-use Rattle.table.specs.Table.{ruleOf}
-use Rattle.table.specs.Rules.{rulesOf}
+use Rattle.table.specs.Lent.{ruleOf, rulesOf}
 use Rattle.table.specs.Gather.{Sized, Stored, Gathered, lentAt, gathered-none, gathered-more, gathered-all}
 use Rattle.table.specs.declared.Rule.{Rule}
 use Rattle.table.specs.declared.RuleArrays.{RuleArrays}

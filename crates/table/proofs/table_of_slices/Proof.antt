@@ -3,7 +3,8 @@ use Prim.Native.Nat.{min}
 use mathlib.Core.Path.{ap, _∙_}
 use borrow.Author.Needs.{needs}
 use lib.ListN.{length}
-use Rattle.table.specs.Rules.{rulesOf, rulesOf-length}
+use Rattle.table.specs.Lent.{rulesOf}
+use Rattle.table.specs.Rules.{rulesOf-length}
 use Rattle.table.proofs.table_of_slices.Statement.{statement}
 use Rattle.table.proofs.table_of_slices.Tie as tie
 

@@ -1,0 +1,71 @@
+-- After the last stop the entries are the distances; where one falls below its floor there is no schedule. Rests on `temporal`'s law for tables.
+use Prim.Native.Nat.{ℕ, suc, _+_, _≤_, _<_}
+use mathlib.Core.Path.{_≡_, ap}
+use mathlib.Core.Bool.{true, false}
+use native.Mathlib.Omega.{arith}
+use lib.Dec.{not-T}
+use Rattle.temporal.specs.Lists.{All-map, All-below, below-All, T-true, T-false}
+use Rattle.temporal.specs.Bound.{above, below}
+use Rattle.temporal.specs.Ticket.{Rule, Ticket, events, time}
+use Rattle.temporal.specs.Distance.{consistent, consistent-has, distance}
+use Rattle.temporal.specs.Run.{ValidRule, Valid}
+use Rattle.temporal.specs.DistanceLaws.{inside, IsTable, Points, table-consistent, table-distance}
+use Rattle.closure.specs.Cases.{by-eq}
+use Rattle.closure.specs.Signed.{bias, lower, raise-parts}
+use Rattle.closure.specs.Matrix.{Matrix, floor, Everywhere, floor-same, floor-other}
+use Rattle.closure.specs.Start.{unused, ruleAt, start, started}
+use Rattle.closure.specs.Stops.{after, Kept, Working, working-sound}
+
+-- The entries D after all stops.
+module _ (k : Ticket) (valid : Valid k) (D : Matrix) (h : Working k (start (k .horizon) (k .rules)) (events k + 1) D) where
+  to-origin : (i : ℕ) → i ≤ events k → D i 0 ≤ bias
+  to-origin i li = omega (arith, h .below i 0 li (omega arith), started k valid .origin i li)
+
+  from-origin : (j : ℕ) → j ≤ events k → D 0 j ≤ bias + k .horizon
+  from-origin j lj = omega (arith, h .below 0 j (omega arith) lj, started k valid .horizon j lj)
+
+  pub small : Everywhere (events k) (λ i j. D i j ≤ bias + k .horizon)
+  small i j li lj =
+      let a = to-origin i li in
+      let b = from-origin j lj in
+      let v = valid .horizon-limit in
+      omega (arith, h .triangle 0 (omega arith) (omega arith) i j li lj (omega arith) (omega arith))
+
+  is-table : IsTable k bias D
+  is-table =
+      record {
+        self = h .diagonal;
+        triangle = λ i j p li lj lp.
+            let v = valid .horizon-limit in
+            h .triangle p lp (omega arith) i j li lj (omega (arith, small i p li lp)) (omega (arith, small p j lp lj));
+        upper = from-origin;
+        lower = to-origin;
+        obeys = below-All (λ (r : Rule). D (r .from) (r .to) + below (r .bound) ≤ bias + above (r .bound)) unused (k .rules) (λ e l.
+            let c = ruleAt (k .rules) e .bound in
+            let r = All-below (ValidRule (events k)) unused (k .rules) (valid .rules-valid) e l in
+            omega (arith, h .below (ruleAt (k .rules) e .from) (ruleAt (k .rules) e .to) (r .from-point) (r .to-point), started k valid .rules e l, raise-parts c (r .at-least)));
+        sound = h .sound;
+      }
+
+  points : Points k
+  points = All-map (λ (r : Rule) (v : ValidRule (events k) r). (v .from-point, v .to-point)) (k .rules) (valid .rules-valid)
+
+  pub all-consistent : consistent k ≡ true
+  all-consistent = T-true (consistent k) (table-consistent k points bias D is-table)
+
+  pub all-distance : Everywhere (events k) (λ i j. distance k i j ≡ lower (D i j))
+  all-distance = table-distance k points bias D is-table
+
+module _ (k : Ticket) (valid : Valid k) where
+  -- an entry below its floor rules out every schedule
+  pub no-schedule : (s : ℕ) → s ≤ events k → Kept (events k) (start (k .horizon) (k .rules)) s → (i j : ℕ) → i ≤ events k → j ≤ events k
+      → after (events k) (start (k .horizon) (k .rules)) (suc s) i j < floor i j → consistent k ≡ false
+  no-schedule s ls kept i j li lj low =
+      T-false (consistent k) (not-T (consistent k) (λ t.
+      let ts = consistent-has k .0 t .0 in
+      let p = consistent-has k .0 t .1 in
+      let sound = working-sound k valid s ls kept ts p i j li lj in
+      let v = valid .horizon-limit in
+      by-eq i j
+      (λ e. omega (arith, floor-same i, ap (floor i) e, ap (time ts) e))
+      (λ q. omega (arith, floor-other i j q, inside k ts p i))))

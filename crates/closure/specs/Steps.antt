@@ -1,0 +1,54 @@
+-- What the loops promise of their arrays. Definitions only. Assumes nothing.
+use Prim.Native.Nat.{ℕ, suc, _+_, _*_, _≤_, _<_}
+use mathlib.Core.Path.{_≡_}
+use mathlib.Core.Bool.{Bool, true, false, cond}
+use mathlib.Core.List.{List}
+use lib.Dec.{ltb}
+use lib.IntN.{ℤ, pos}
+use lib.ListN.{length, getD, set}
+use Rattle.closure.specs.Signed.{lower}
+use Rattle.closure.specs.Matrix.{Matrix, floor, Everywhere}
+use Rattle.closure.specs.Stops.{after, Floors, Kept}
+
+-- Row i, column j of a table of n + 1 columns.
+abbrev pub cell : ℕ → List ℤ → ℕ → ℕ → ℤ
+cell n out i j = getD out (i * (n + 1) + j) (pos 0)
+
+-- The points i and j are of the network, and the entry x between them is below its floor.
+unfoldable pub fallenAt : ℕ → ℕ → ℕ → ℕ → Bool
+fallenAt n x i j = cond (ltb n i) false (cond (ltb n j) false (ltb x (floor i j)))
+
+-- Such an entry.
+pub record Fallen (n : ℕ) (D : Matrix) : Type 0 where
+  pub row : ℕ
+  pub column : ℕ
+  pub row-in : row ≤ n
+  pub column-in : column ≤ n
+  pub low : D row column < floor row column
+
+pub record Checked (n : ℕ) (D : Matrix) (r : Bool) : Type 0 where
+  pub good : r ≡ true → Floors n D
+  pub bad : r ≡ false → Fallen n D
+
+-- The first stop after which an entry is below its floor.
+pub record Stopped (n : ℕ) (D : Matrix) : Type 0 where
+  pub stop : ℕ
+  pub stop-in : stop ≤ n
+  pub before : Kept n D stop
+  pub fallen : Fallen n (after n D (suc stop))
+
+-- All stops were taken and the entries are R, or an entry fell below its floor on the way.
+pub record Closed (n : ℕ) (D R : Matrix) (r : Bool) : Type 0 where
+  pub kept : r ≡ true → Kept n D (n + 1)
+  pub entries : r ≡ true → Everywhere n (λ i j. R i j ≡ after n D (n + 1) i j)
+  pub stopped : r ≡ false → Stopped n D
+
+-- The table with v in row i, column j, if both are of the network.
+unfoldable pub place : ℕ → List ℤ → ℕ → ℕ → ℤ → List ℤ
+place n out i j v = cond (ltb n i) out (cond (ltb n j) out (set out (i * (n + 1) + j) v))
+
+-- The entries D are written to an output.
+pub record Written (n : ℕ) (D : Matrix) (before after : List ℤ) : Type 0 where
+  pub long : length after ≡ length before
+  pub cells : Everywhere n (λ i j. cell n after i j ≡ lower (D i j))
+  pub beyond : (p : ℕ) → (n + 1) * (n + 1) ≤ p → getD after p (pos 0) ≡ getD before p (pos 0)

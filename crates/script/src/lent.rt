@@ -1,0 +1,58 @@
+// What is lent to a call, and what it must hold afterwards.
+// Rests on the library `check` for comparing.
+ghost use mathlib.Core.Path.{_≡_};
+ghost use lib.ListN.{length};
+
+// What holds between cases: the length of the kept bytes, and how much output and scratch is lent.
+pub struct State {
+    pub kept: usize,
+    pub out: usize,
+    pub scratch: usize,
+}
+
+pub fn output() -> [u8; 2048]
+    ensures { λ r. ⌜ 2048 ≡ length r ⌝ }
+{
+    [7u8; 2048]
+}
+
+pub fn scratch() -> [u32; 8200]
+    ensures { λ r. ⌜ 8200 ≡ length r ⌝ }
+{
+    [7u32; 8200]
+}
+
+// The first n bytes, all where there are fewer.
+pub fn part(s: &[u8], n: usize) -> &[u8] {
+    if n <= s.len() {
+        return &s[..n];
+    }
+    s
+}
+
+// Whether an output holds the bytes, and after them what it held before.
+pub fn written(bytes: &[u8], out: &[u8]) -> bool {
+    let mut right = output();
+    crate::copy(bytes, &mut right);
+    check::same(out, &right)
+}
+
+// What a number of scratch must be after a call: 10 leaves all as they were, others clear 8,192.
+fn cleared(number: u32, i: usize) -> u32 {
+    if number == 10 {
+        return 7;
+    }
+    if i < 8192 { 0 } else { 7 }
+}
+
+// Whether scratch holds what it must.
+pub fn is_cleared(number: u32, scratch: &[u32]) -> bool {
+    let mut i = 0;
+    while i < scratch.len() {
+        if scratch[i] != cleared(number, i) {
+            return false;
+        }
+        i += 1;
+    }
+    true
+}
