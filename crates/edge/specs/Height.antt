@@ -7,6 +7,7 @@ use native.Mathlib.Omega.{arith}
 use native.Mathlib.Decide.{ℕ-discrete, decLt}
 use Rattle.network.specs.Stored.{at, tailOf, headOf, costOf, Network, Potential}
 use Rattle.network.specs.Index.{endOf, Last, box-edge, ListedFrom, Unlisted, list-cover}
+use Rattle.edge.specs.Limit.{list-edge}
 
 -- node v can be at x: no lower than it is, and the demands of all edges into it hold
 pub record Height (net : List ℕ) (m : ℕ) (pot : List ℕ) (v x : ℕ) : Type 0 where
@@ -38,7 +39,7 @@ module _ {net : List ℕ} {m nodes : ℕ} {pot : List ℕ} {v : ℕ} (N : Networ
 
   -- where the next edge of the list stands
   pub below-edge : {x best : ℕ} → Below net m nodes pot v x best → 0 < x → (x - 1 < m) × (2 * nodes - 2 ≤ x - 1) × (x - 1 - (2 * nodes - 2) < 319)
-  below-edge B px = let hit = B .next .hit px in (omega (arith, B .next .below), omega (arith, hit .0), omega (arith, B .next .below, N .rules))
+  below-edge B px = list-edge N (B .next) px
 
   pub below-more : {x y best : ℕ} → Below net m nodes pot v x best → 0 < x → Last net (2 * nodes - 2) 1 (endOf net 1 (x - 1)) (x - 1) y
       → Below net m nodes pot v y (min best (at pot (tailOf net (x - 1)) + costOf net (x - 1)))

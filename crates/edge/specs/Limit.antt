@@ -1,9 +1,10 @@
 -- An edge is stored, and its numbers and the times of its ends are small enough to compute with. Assumes nothing.
-use Prim.Native.Nat.{ℕ, _+_, _*_, _≤_, _<_}
+use Prim.Native.Nat.{ℕ, _+_, _*_, _-_, _≤_, _<_}
 use mathlib.Core.List.{List}
 use native.Mathlib.Omega.{arith}
 use lib.ListN.{length}
 use Rattle.network.specs.Stored.{at, tailOf, headOf, costOf, Network, Potential, pot-bound}
+use Rattle.network.specs.Index.{Unlisted}
 
 pub record EdgeFits (net pot : List ℕ) (e : ℕ) : Type 0 where
   pub inside : 4 * e + 3 < length net
@@ -50,3 +51,8 @@ edge-place {net} {m} {nodes} N e le =
       tail = node-small N (N .tails e le);
       head = node-small N (N .heads e le);
     }
+
+-- where the next edge of a list stands
+pub list-edge : {net : List ℕ} {m nodes side w x : ℕ} → Network net m nodes → Unlisted net m (2 * nodes - 2) side w x → 0 < x
+    → (x - 1 < m) × (2 * nodes - 2 ≤ x - 1) × (x - 1 - (2 * nodes - 2) < 319)
+list-edge N U p = let hit = U .hit p in (omega (arith, U .below), omega (arith, hit .0), omega (arith, U .below, N .rules))

@@ -1,4 +1,4 @@
-// What the edges of a difference network allow one by one: how high a node can be while the others stay, and how much flow an edge with no slack can
+// What the edges of a difference network allow one by one: how high and how low a node can be while the others stay, and how much flow an edge with no slack can
 // carry from what its tail has to send to what the event of its head wants.
 // Rests on crate network, which stores the edges.
 
@@ -9,6 +9,7 @@ ghost use Rattle.network.specs.Stored.{at, tailOf, costOf, Network, Potential};
 ghost use Rattle.network.specs.Index.{Index};
 ghost use Rattle.edge.specs.Limit.{EdgeFits};
 ghost use Rattle.edge.specs.Height.{Height};
+ghost use Rattle.edge.specs.Depth.{needOf, Depth};
 ghost use Rattle.edge.specs.Carry.{Share, Wanted, Carried};
 use network::BIAS;
 
@@ -44,6 +45,42 @@ pub fn height(
         let e = x - 1;
         best = network::least(best, limit(net, pot, e));
         x = heads[81 + (e - base)] as usize;
+    }
+    best - BIAS
+}
+
+// What edge e asks of its tail, biased: the time of its head less its cost.
+fn need(net: &[u32], pot: &[u32; 81], e: usize) -> u32
+    requires { ⌜ EdgeFits (now net) (now pot) e ⌝ }
+    ensures { λ r. ⌜ r ≡ needOf (now (net .entry)) (now (pot .entry)) e ⌝ }
+{
+    let p = 4 * e;
+    let b = net[p + 1] as usize;
+    pot[b] + (2 * BIAS - net[p + 2])
+}
+
+// The lowest that node v can be while the other nodes stay.
+pub fn depth(
+    net: &[u32],
+    m: usize,
+    nodes: usize,
+    tails: &[u32; 400],
+    pot: &[u32; 81],
+    v: usize,
+) -> u32
+    requires { ⌜ Network (now net) m nodes ⌝ }
+    requires { ⌜ Potential (now net) m (now pot) ⌝ }
+    requires { ⌜ Index (now net) m (2 * nodes - 2) 0 (now tails) ⌝ }
+    requires { ⌜ (0 < v) × (v < nodes) ⌝ }
+    ensures { λ r. ⌜ Depth (now (net .entry)) m (now (pot .entry)) v r ⌝ }
+{
+    let base = 2 * nodes - 2;
+    let mut best = need(net, pot, 2 * v - 2);
+    let mut x = tails[v] as usize;
+    while 0 < x {
+        let e = x - 1;
+        best = network::most(best, need(net, pot, e));
+        x = tails[81 + (e - base)] as usize;
     }
     best - BIAS
 }

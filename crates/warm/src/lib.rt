@@ -26,6 +26,24 @@ fn rise(net: &[u32], m: usize, n: usize, heads: &[u32; 400], pot: &mut [u32; 81]
     }
 }
 
+// Lower each lo node as far as it can: no flow runs yet.
+fn deepen(net: &[u32], m: usize, n: usize, tails: &[u32; 400], pot: &mut [u32; 81])
+    requires { ⌜ Network (now net) m (2 * n + 1) ⌝ }
+    requires { ⌜ Potential (now net) m (now pot) ⌝ }
+    requires { ⌜ Index (now net) m (2 * (2 * n + 1) - 2) 0 (now tails) ⌝ }
+    requires { ⌜ ((e : ℕ) → e < m → flowOf (now net) e ≡ 0) ⌝ }
+    ensures { λ _. ⌜ Potential (now (net .entry)) m (now (pot .exit)) ⌝ }
+    ensures { λ _. ⌜ Beyond (now (pot .entry)) (now (pot .exit)) (2 * n + 1) ⌝ }
+{
+    let nodes = 2 * n + 1;
+    let mut v = 1;
+    while v <= n {
+        let x = edge::depth(net, m, nodes, tails, pot, v);
+        pot[v] = x;
+        v += 1;
+    }
+}
+
 // A wider potential: the hi nodes rise.
 pub fn widen(
     net: &[u32],
