@@ -57,6 +57,16 @@ module _ {key : List ℕ} {x w : ℕ} (h : Seek key x w) where
   pub seek-done : at key w ≡ x → Nearest key w
   seek-done q = record { inside = seek-inside; least = λ v l. omega (arith, h .least v l) }
 
+-- no key is below the distance that the search came to
+pub keys-from : {net : List ℕ} {m nodes : ℕ} {pot stamp via dist order key : List ℕ} {root t s d : ℕ} → Search net m nodes pot stamp via dist order key root t s d
+    → (v : ℕ) → v < 81 → d ≤ at key v
+keys-from {nodes = nodes} {stamp = stamp} S v l =
+    by-cases (decLt v nodes)
+    (λ lv. by-zero (at stamp v)
+    (λ z. omega (arith, S .far v lv z, S .keyed .keys v lv .out z))
+    (λ p. omega (arith, S .bound, S .keyed .keys v lv .reached p)))
+    (λ n. omega (arith, S .bound, S .keyed .rest v (omega arith) l))
+
 module _ {net : List ℕ} {m nodes : ℕ} {pot stamp via dist order key : List ℕ} {root t s d : ℕ}
     (S : Search net m nodes pot stamp via dist order key root t s d) (some : 0 < s) (all : t ≤ s) (more : s < nodes) where
   N : Network net m nodes

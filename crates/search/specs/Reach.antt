@@ -14,7 +14,7 @@ use Rattle.network.specs.Stored.{at, Network, Potential}
 use Rattle.network.specs.Index.{Index}
 use Rattle.search.specs.Tree.{Reached}
 use Rattle.visit.specs.Search.{Search, search-start}
-use Rattle.search.specs.Nearest.{Nearest, nearest-out, search-nearest}
+use Rattle.search.specs.Nearest.{Nearest, keys-from, nearest-out, search-nearest}
 use Rattle.scan.specs.Sweep.{Scanned}
 use Rattle.search.specs.Raise.{Room, Moved, search-room, search-reached}
 
@@ -47,6 +47,11 @@ pub record Explored (net : List ℕ) (m nodes : ℕ) (pot stamp via dist : List 
   pub room : Room pot dist d nodes
   pub outcome : (pot' : List ℕ) → length pot' ≡ 81 → Moved pot pot' dist d nodes → Reached net m nodes pot' stamp via root goal r
 
+-- at the distance 0 nothing moves
+pub explored-here : {net : List ℕ} {m nodes : ℕ} {pot stamp via dist : List ℕ} {root : ℕ} {goal : List ℕ} {r d : ℕ}
+    → Explored net m nodes pot stamp via dist root goal r d → d ≤ 0 → Reached net m nodes pot stamp via root goal r
+explored-here {pot = pot} h z = h .outcome pot (h .room .long) (λ v l. omega arith)
+
 pub record Searching (net : List ℕ) (m nodes : ℕ) (pot stamp via dist order key : List ℕ) (root : ℕ) (goal : List ℕ) (t seen s d : ℕ) : Type 0 where
   pub search : Search net m nodes pot stamp via dist order key root t s d
   pub scanned : s ≤ seen
@@ -60,6 +65,9 @@ module _ {net : List ℕ} {m nodes : ℕ} {pot stamp via dist order key : List �
 
   pub goal-asks : (seen ≤ t) × (t ≤ 81) × ((k : ℕ) → k < t → at order k < 81)
   goal-asks = (S .reached, omega (arith, counts), λ k l. omega (arith, S .search .queue k l .0, S .search .network .few))
+
+  pub next-asks : (at order (t - 1) < 81) × ((v : ℕ) → v < 81 → d ≤ at key v)
+  next-asks = (goal-asks .2 (t - 1) (omega (arith, counts)), keys-from (S .search))
 
   -- no node that is reached has a goal
   searching-all : {g : ℕ} → Goals order goal seen t g → t ≤ g → Searching net m nodes pot stamp via dist order key root goal t t s d
@@ -150,10 +158,10 @@ module _ {net : List ℕ} {m nodes : ℕ} {pot tails heads via dist : List ℕ} 
   pub root-small : root < 81
   root-small = omega (arith, B .inside, B .network .few)
 
-  pub searching-start : {goal : List ℕ} → Searching net m nodes pot (set (replicate 81 0) root 1) via (set dist root 0) (replicate 81 root) (replicate 81 8000000) root goal 1 0 0 0
+  pub searching-start : {goal : List ℕ} → Searching net m nodes pot (set (replicate 81 0) root 1) via (set dist root 0) (set (replicate 81 0) 0 root) (replicate 81 8000000) root goal 1 0 0 0
   searching-start =
       record {
-        search = search-start (replicate 81 0) dist (replicate 81 root) (replicate 81 8000000) (B .network) (B .potential) refl (B .sizes .0) (B .sizes .1) refl refl (B .inside)
+        search = search-start (replicate 81 0) dist (set (replicate 81 0) 0 root) (replicate 81 8000000) (B .network) (B .potential) refl (B .sizes .0) (B .sizes .1) refl refl (B .inside)
             refl (λ k l. zeros-at 81 k) (B .fresh) (λ k l. getD-replicate 81 k 8000000 0 l);
         scanned = omega arith;
         reached = omega arith;

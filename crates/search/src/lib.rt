@@ -29,7 +29,7 @@ fn least_key(key: &[u32; 81]) -> u32
     best
 }
 
-// The first node with the least key.
+// A node with the least key.
 fn nearest(key: &[u32; 81]) -> usize
     ensures { λ r. ⌜ Nearest (now (key .entry)) r ⌝ }
 {
@@ -39,6 +39,20 @@ fn nearest(key: &[u32; 81]) -> usize
         w += 1;
     }
     w
+}
+
+// The node after w, if its key is d, the least that a key can be, else a node with the least key.
+fn next(key: &[u32; 81], w: usize, d: u32) -> usize
+    requires { ⌜ (w < 81) × ((v : ℕ) → v < 81 → d ≤ at (now key) v) ⌝ }
+    ensures { λ r. ⌜ Nearest (now (key .entry)) r ⌝ }
+{
+    let c = w + 1;
+    if c < 81 {
+        if key[c] == d {
+            return c;
+        }
+    }
+    nearest(key)
 }
 
 // Raise the nodes nearer than d by the difference, with the origin kept in place.
@@ -97,7 +111,8 @@ fn explore(
     *stamp = [0usize; 81];
     stamp[root] = 1;
     dist[root] = 0;
-    let mut order = [root; 81];
+    let mut order = [0usize; 81];
+    order[0] = root;
     // the distance of a node that is not reached, and FAR for any other
     let mut key = [FAR; 81];
     // t nodes are reached, the first seen of them have no goal, and the first s are scanned
@@ -115,7 +130,7 @@ fn explore(
         }
         seen = t;
         if s == t {
-            let w = nearest(&key);
+            let w = next(&key, order[t - 1], d);
             d = dist[w];
             visit::join(stamp, &mut order, &mut key, w, t);
             t += 1;
@@ -181,7 +196,10 @@ pub fn reach(
         root,
         goal,
     );
-    raise(pot, &dist, nodes, found.dist);
+    // at distance 0 nothing moves
+    if 0 < found.dist {
+        raise(pot, &dist, nodes, found.dist);
+    }
     found.node
 }
 

@@ -2,7 +2,7 @@
 use native.Mathlib.Omega.{arith}
 use borrow.Author.Needs.{needs}
 use Prim.Native.Nat.{_+_, _*_, _-_}
-use Rattle.search.specs.Reach.{Searching, root-small, searching-start, counts, goal-asks, near-asks, near-less, searching-near, scan-asks, scan-less, searching-scan, explored-goal, explored-all}
+use Rattle.search.specs.Reach.{Searching, root-small, searching-start, counts, goal-asks, next-asks, near-asks, near-less, searching-near, scan-asks, scan-less, searching-scan, explored-goal, explored-all}
 use Rattle.search.proofs.explore.Statement.{statement}
 use Rattle.search.proofs.explore.Tie as tie
 
@@ -30,35 +30,44 @@ loop-holds c = searching-start (c .before .before .pre)
 last-goal-requires : tie.Need-last-goal-requires Inv-loop μ-loop
 last-goal-requires c κs = goal-asks (c .before .before .loop .inv)
 
-mul-t27 : tie.Need-mul-t27 Inv-loop μ-loop
-mul-t27 c = omega (arith, counts (c .before .before .before .before .loop .inv), c .if1 .taken)
+mul-t29 : tie.Need-mul-t29 Inv-loop μ-loop
+mul-t29 c = omega (arith, counts (c .before .before .before .before .loop .inv), c .if1 .taken)
 
-array-read-t30 : tie.Need-array-read-t30 Inv-loop μ-loop
-array-read-t30 c = omega (arith, counts (c .before .before .before .before .loop .inv), c .if1 .taken)
+array-read-t32 : tie.Need-array-read-t32 Inv-loop μ-loop
+array-read-t32 c = omega (arith, counts (c .before .before .before .before .loop .inv), c .if1 .taken)
 
 returns : tie.Need-returns Inv-loop μ-loop
 returns c = explored-goal (c .before .before .before .before .loop .inv) (c .before .last-goal .ensures) (c .if1 .taken)
 
-nearest-requires : tie.Need-nearest-requires Inv-loop μ-loop
-nearest-requires c κs = search needs
+sub-next : tie.Need-sub-next Inv-loop μ-loop
+sub-next c = omega (arith, counts (c .before .before .before .before .before .before .loop .inv))
+
+mul-next : tie.Need-mul-next Inv-loop μ-loop
+mul-next c = omega (arith, counts (c .before .before .before .before .before .before .loop .inv))
+
+array-read-next : tie.Need-array-read-next Inv-loop μ-loop
+array-read-next c = omega (arith, counts (c .before .before .before .before .before .before .loop .inv))
+
+next-requires : tie.Need-next-requires Inv-loop μ-loop
+next-requires c κs = next-asks (c .before .before .before .before .before .before .loop .inv)
 
 mul-d : tie.Need-mul-d Inv-loop μ-loop
-mul-d c = omega (arith, near-asks (c .before .before .before .before .before .before .before .loop .inv) (c .before .before .before .before .last-goal .ensures) (c .before .before .before .if1 .left) (c .before .before .before .before .before .before .loop-test .taken) (c .before .before .if2 .taken) (c .nearest .ensures))
+mul-d c = omega (arith, near-asks (c .before .before .before .before .before .before .before .loop .inv) (c .before .before .before .before .last-goal .ensures) (c .before .before .before .if1 .left) (c .before .before .before .before .before .before .loop-test .taken) (c .before .before .if2 .taken) (c .next .ensures))
 
 element-copy-out-d : tie.Need-element-copy-out-d Inv-loop μ-loop
-element-copy-out-d c = near-asks (c .before .before .before .before .before .before .before .loop .inv) (c .before .before .before .before .last-goal .ensures) (c .before .before .before .if1 .left) (c .before .before .before .before .before .before .loop-test .taken) (c .before .before .if2 .taken) (c .nearest .ensures) .0
+element-copy-out-d c = near-asks (c .before .before .before .before .before .before .before .loop .inv) (c .before .before .before .before .last-goal .ensures) (c .before .before .before .if1 .left) (c .before .before .before .before .before .before .loop-test .taken) (c .before .before .if2 .taken) (c .next .ensures) .0
 
 join-requires : tie.Need-join-requires Inv-loop μ-loop
-join-requires c κs = near-asks (c .before .before .before .before .before .before .before .before .before .before .before .loop .inv) (c .before .before .before .before .before .before .before .before .last-goal .ensures) (c .before .before .before .before .before .before .before .if1 .left) (c .before .before .before .before .before .before .before .before .before .before .loop-test .taken) (c .before .before .before .before .before .before .if2 .taken) (c .before .before .before .before .nearest .ensures)
+join-requires c κs = near-asks (c .before .before .before .before .before .before .before .before .before .before .before .loop .inv) (c .before .before .before .before .before .before .before .before .last-goal .ensures) (c .before .before .before .before .before .before .before .if1 .left) (c .before .before .before .before .before .before .before .before .before .before .loop-test .taken) (c .before .before .before .before .before .before .if2 .taken) (c .before .before .before .before .next .ensures)
 
 add-t : tie.Need-add-t Inv-loop μ-loop
-add-t c = omega (arith, near-asks (c .before .before .before .before .before .before .before .before .before .before .before .before .loop .inv) (c .before .before .before .before .before .before .before .before .before .last-goal .ensures) (c .before .before .before .before .before .before .before .before .if1 .left) (c .before .before .before .before .before .before .before .before .before .before .before .loop-test .taken) (c .before .before .before .before .before .before .before .if2 .taken) (c .before .before .before .before .before .nearest .ensures))
+add-t c = omega (arith, near-asks (c .before .before .before .before .before .before .before .before .before .before .before .before .loop .inv) (c .before .before .before .before .before .before .before .before .before .last-goal .ensures) (c .before .before .before .before .before .before .before .before .if1 .left) (c .before .before .before .before .before .before .before .before .before .before .before .loop-test .taken) (c .before .before .before .before .before .before .before .if2 .taken) (c .before .before .before .before .before .next .ensures))
 
 loop-less : tie.Need-loop-less Inv-loop μ-loop
-loop-less c = near-less (c .before .before .before .before .before .before .before .before .before .before .before .before .loop .inv) (c .before .before .before .before .before .before .before .before .before .last-goal .ensures) (c .before .before .before .before .before .before .before .before .if1 .left) (c .before .before .before .before .before .before .before .before .before .before .before .loop-test .taken) (c .before .before .before .before .before .before .before .if2 .taken) (c .before .before .before .before .before .nearest .ensures)
+loop-less c = near-less (c .before .before .before .before .before .before .before .before .before .before .before .before .loop .inv) (c .before .before .before .before .before .before .before .before .before .last-goal .ensures) (c .before .before .before .before .before .before .before .before .if1 .left) (c .before .before .before .before .before .before .before .before .before .before .before .loop-test .taken) (c .before .before .before .before .before .before .before .if2 .taken) (c .before .before .before .before .before .next .ensures)
 
 loop-again : tie.Need-loop-again Inv-loop μ-loop
-loop-again c = searching-near (c .before .before .before .before .before .before .before .before .before .before .before .before .loop .inv) (c .before .before .before .before .before .before .before .before .before .last-goal .ensures) (c .before .before .before .before .before .before .before .before .if1 .left) (c .before .before .before .before .before .before .before .before .before .before .before .loop-test .taken) (c .before .before .before .before .before .before .before .if2 .taken) (c .before .before .before .before .before .nearest .ensures) (c .join .ensures)
+loop-again c = searching-near (c .before .before .before .before .before .before .before .before .before .before .before .before .loop .inv) (c .before .before .before .before .before .before .before .before .before .last-goal .ensures) (c .before .before .before .before .before .before .before .before .if1 .left) (c .before .before .before .before .before .before .before .before .before .before .before .loop-test .taken) (c .before .before .before .before .before .before .before .if2 .taken) (c .before .before .before .before .before .next .ensures) (c .join .ensures)
 
 scan-requires : tie.Need-scan-requires Inv-loop μ-loop
 scan-requires c κs =
@@ -87,12 +96,16 @@ explore-spec =
     element-write-stamp
     mul-dist
     element-write-dist
+    (λ c. search needs)
     loop-holds
     last-goal-requires
-    mul-t27
-    array-read-t30
+    mul-t29
+    array-read-t32
     returns
-    nearest-requires
+    sub-next
+    mul-next
+    array-read-next
+    next-requires
     mul-d
     element-copy-out-d
     join-requires

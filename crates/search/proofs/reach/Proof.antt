@@ -1,7 +1,8 @@
--- `reach` meets its contract: a search, and the potential moved by it.
+-- `reach` meets its contract: a search, and the potential moved by it, if the search went farther than 0.
 use borrow.Author.Needs.{needs}
 use mathlib.Core.Path.{refl}
 use lib.ListN.{getD-replicate}
+use Rattle.search.specs.Reach.{explored-here}
 use Rattle.search.proofs.reach.Statement.{statement}
 use Rattle.search.proofs.reach.Tie as tie
 
@@ -14,7 +15,10 @@ explore-requires c κs =
 returns : tie.Need-returns
 returns c =
     let s = c .raise .ensures in
-    (c .before .before .before .explore .ensures .outcome _ (s .long) (s .moved), s .rest)
+    (c .before .before .before .before .before .explore .ensures .outcome _ (s .long) (s .moved), s .rest)
+
+returns-2 : tie.Need-returns-2
+returns-2 c = (explored-here (c .before .before .explore .ensures) (c .if1 .left), λ k l. refl)
 
 pub reach-spec : {M : Type 1} → statement M
 reach-spec =
@@ -22,4 +26,5 @@ reach-spec =
     (tie.spec
     explore-requires
     (λ c κs. search needs)
-    returns)
+    returns
+    returns-2)
