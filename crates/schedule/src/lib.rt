@@ -35,11 +35,6 @@ fn raise(times: &mut [u32; 81], n: usize, horizon: u32, from: u8, to: u8, bound:
     1
 }
 
-// The larger of two answers.
-fn larger(a: u32, b: u32) -> u32 {
-    if a < b { b } else { a }
-}
-
 // Raise the times, rule by rule. The largest answer of `raise`.
 fn round(t: ticket::Ticket, times: &mut [u32; 81]) -> u32
     requires { ⌜ Given t ⌝ }
@@ -52,7 +47,7 @@ fn round(t: ticket::Ticket, times: &mut [u32; 81]) -> u32
         let from = t.from[j];
         let to = t.to[j];
         let bound = t.bound[j];
-        most = larger(most, raise(times, t.events, t.horizon, from, to, bound));
+        most = network::most(most, raise(times, t.events, t.horizon, from, to, bound));
         if most == 2 {
             return 2;
         }
