@@ -1,15 +1,16 @@
-// What the edges of a difference network allow one by one: how high and how low a node can be while the others stay, and how much flow an edge with no slack can
-// carry from what its tail has to send to what the event of its head wants.
+// What the edges of a difference network allow one by one: how high and how low a node can be while the others stay, how far all nodes can rise together, and
+// how much flow an edge with no slack can carry from what its tail has to send to what the event of its head wants.
 // Rests on crate network, which stores the edges.
 
 ghost use mathlib.Core.Path.{_≡_};
 ghost use Prim.Native.Nat.{_+_, _*_, _-_, _<_, _≤_};
 ghost use lib.ListN.{length, set};
-ghost use Rattle.network.specs.Stored.{at, tailOf, costOf, Network, Potential};
+ghost use Rattle.network.specs.Stored.{at, tailOf, headOf, costOf, Network, Potential};
 ghost use Rattle.network.specs.Index.{Index};
 ghost use Rattle.edge.specs.Limit.{EdgeFits};
 ghost use Rattle.edge.specs.Height.{Height};
 ghost use Rattle.edge.specs.Depth.{needOf, Depth};
+ghost use Rattle.edge.specs.Headroom.{Headroom, BoxRoom};
 ghost use Rattle.edge.specs.Carry.{Share, Wanted, Carried};
 use network::BIAS;
 
@@ -83,6 +84,50 @@ pub fn depth(
         x = tails[81 + (e - base)] as usize;
     }
     best - BIAS
+}
+
+// The slack of an edge from the origin, which stands at 0.
+fn slack(net: &[u32], pot: &[u32; 81], e: usize) -> u32
+    requires { ⌜ EdgeFits (now net) (now pot) e ⌝ }
+    requires { ⌜ at (now pot) (headOf (now net) e) + 1000000 ≤ costOf (now net) e ⌝ }
+    ensures { λ r. ⌜ r ≡ costOf (now (net .entry)) e - 1000000 - at (now (pot .entry)) (headOf (now (net .entry)) e) ⌝ }
+{
+    let p = 4 * e;
+    let b = net[p + 1] as usize;
+    net[p + 2] - BIAS - pot[b]
+}
+
+// How far the boxes let all nodes but the origin rise, at most 1_000_000.
+fn box_room(net: &[u32], m: usize, nodes: usize, pot: &[u32; 81]) -> u32
+    requires { ⌜ Network (now net) m nodes ⌝ }
+    requires { ⌜ Potential (now net) m (now pot) ⌝ }
+    ensures { λ r. ⌜ BoxRoom (now (net .entry)) (now (pot .entry)) nodes r ⌝ }
+{
+    let mut best = 1_000_000;
+    let mut v = 1;
+    while v < nodes {
+        best = network::least(best, slack(net, pot, 2 * v - 1));
+        v += 1;
+    }
+    best
+}
+
+// How far all nodes but the origin can rise together, at most 1_000_000.
+pub fn headroom(net: &[u32], m: usize, nodes: usize, tails: &[u32; 400], pot: &[u32; 81]) -> u32
+    requires { ⌜ Network (now net) m nodes ⌝ }
+    requires { ⌜ Potential (now net) m (now pot) ⌝ }
+    requires { ⌜ Index (now net) m (2 * nodes - 2) 0 (now tails) ⌝ }
+    ensures { λ r. ⌜ Headroom (now (net .entry)) m (now (pot .entry)) r ⌝ }
+{
+    let base = 2 * nodes - 2;
+    let mut best = box_room(net, m, nodes, pot);
+    let mut x = tails[0] as usize;
+    while 0 < x {
+        let e = x - 1;
+        best = network::least(best, slack(net, pot, e));
+        x = tails[81 + (e - base)] as usize;
+    }
+    best
 }
 
 // The event of a hi node, or 0.

@@ -1,3 +1,4 @@
--- What crate warm rests on: its contracts are about crate network's Potential alone. Widen .raised-potential: a node that rises keeps a potential;
--- .lowered-potential: so does one that sinks.
+-- What crate warm rests on: its contracts are about crate network's Potential, and that of `shift` about Center's record Shifted.
+-- Widen .raised-potential, .lowered-potential: a node that rises or sinks keeps a potential. Center .shifted-potential: so do all nodes that rise together.
 pub mod Widen
+pub mod Center

@@ -1,12 +1,12 @@
--- `deepen` meets its contract. The invariant: the potential fits, and what stands past the nodes is as it was.
+-- `sink` meets its contract. The invariant: the potential fits, and what stands past the nodes is as it was.
 use Prim.Native.Nat.{_+_, _*_, _-_, _≤_, _<_}
 use Rattle.network.specs.Stored.{Beyond, Potential}
 use Rattle.warm.specs.Widen.{lowered-potential}
 use native.Mathlib.Omega.{arith}
 use mathlib.Core.Path.{refl, _∙_}
 use lib.Seq.{getD-set-other}
-use Rattle.warm.proofs.deepen.Statement.{statement}
-use Rattle.warm.proofs.deepen.Tie as tie
+use Rattle.warm.proofs.sink.Statement.{statement}
+use Rattle.warm.proofs.sink.Tie as tie
 
 abbrev Inv-loop : tie.InvT-loop
 Inv-loop net m n tails pot₀ nodes v₀ pot v = (0 < v) × (v ≤ n + 1) × Potential net m pot × Beyond pot₀ pot (2 * n + 1)
@@ -53,8 +53,8 @@ loop-again c =
 returns : tie.Need-returns Inv-loop μ-loop
 returns c = (c .before .loop .inv .2, c .before .loop .inv .3)
 
-pub deepen-spec : {M : Type 1} → statement M
-deepen-spec =
+pub sink-spec : {M : Type 1} → statement M
+sink-spec =
     tie.close
     (tie.spec
     Inv-loop
