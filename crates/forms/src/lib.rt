@@ -1,5 +1,6 @@
 // The cases that read and write tickets and records: the calls, and what they answer.
 // Rests on the crates `reading`, `reading_records`, `writing` and `writing_records`, on the structs of `ticket`, and on `script` for input, output and printing.
+
 ghost use Prim.Native.Nat.{_≤_};
 ghost use lib.ListN.{length};
 use script::lent;

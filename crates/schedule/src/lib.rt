@@ -1,5 +1,5 @@
 // A schedule of a ticket's struct, where there is one: by relaxation, else by a network of the points that grows rule by rule.
-// Rests on `ticket` for the struct, on `demands` for the rules, and on `network` for the edges and what admits one more.
+// Rests on `ticket` for the struct, on `demands` for the rules, on `network` for the edges, and on `search` for what admits one more.
 
 ghost use mathlib.Core.Path.{_≡_};
 ghost use Prim.Native.Nat.{_+_, _*_, _<_, _≤_};
