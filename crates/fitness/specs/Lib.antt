@@ -1,5 +1,4 @@
--- What crate fitness rests on. The contracts of `fit` and `total` are equations with temporal's `fits` and `total`; `weigh` leaves Weighs, in Weights.
+-- What crate fitness rests on. The contracts of `fit` and `total` are equations with temporal's `fits` and `total`.
 -- Fit .fit-answer: the rules over nodes decide fitness. Total .total-in: the total as a sum over the arrays.
 pub mod Fit
-pub mod Weights
 pub mod Total

@@ -1,5 +1,5 @@
-// Whether windows are fit, and what they count: the test on window ends, the weights of the events, and the weighted total.
-// Rests on `ticket` for the struct, on `temporal` for fitness and weights, on `potentials` and `demands` for the rules over nodes, and on `network` for sums, and on `flow` for what weights it asks for.
+// Whether windows are fit, and what they count: the test on window ends, and the weighted total.
+// Rests on `ticket` for the struct, on `temporal` for fitness and weights, on `potentials` and `demands` for the rules over nodes, and on `network` for sums.
 
 ghost use mathlib.Core.Path.{_≡_};
 ghost use Prim.Native.Nat.{_*_, _-_, _≤_};
@@ -7,7 +7,6 @@ ghost use Rattle.temporal.specs.Ticket.{weight, total, fits};
 ghost use Rattle.temporal.specs.Run.{Valid};
 ghost use Rattle.ticket.specs.Writing.{content};
 ghost use Rattle.potentials.specs.Arrays.{windowList, Lie};
-ghost use Rattle.fitness.specs.Weights.{Weighs};
 
 // Whether windows within the horizon are fit.
 pub fn fit(t: ticket::Ticket, opens: &[u32; 40], closes: &[u32; 40]) -> bool
@@ -18,19 +17,6 @@ pub fn fit(t: ticket::Ticket, opens: &[u32; 40], closes: &[u32; 40]) -> bool
     let mut pot = [0u32; 81];
     potentials::lay(t.events, opens, closes, &mut pot);
     demands::obeyed(t, t.events, &pot)
-}
-
-// The weights of the events, each that of its owner.
-pub fn weigh(n: usize, owners: &[u8; 40], weight: &mut [u32; 81])
-    requires { ⌜ n ≤ 40 ⌝ }
-    requires { ⌜ Weighs (now owners) (now weight) 0 ⌝ }
-    ensures { λ _. ⌜ Weighs (now (owners .entry)) (now (weight .exit)) n ⌝ }
-{
-    let mut i = 0;
-    while i < n {
-        weight[i + 1] = temporal::weight(owners[i]);
-        i += 1;
-    }
 }
 
 // What a window counts.

@@ -1,4 +1,2 @@
--- What the program prints for any bytes (Printed), the text of numbers and lines (Text), and how it is stored (Stores).
-pub mod Text
-pub mod Stores
+-- What the program prints for any bytes.
 pub mod Printed

@@ -22,7 +22,7 @@ use Rattle.ticket.specs.Agree.{field-at}
 use Rattle.ticket.specs.declared.Record.{Record}
 use Rattle.runs.specs.Calls.{Outcome, room, planning-read}
 use Rattle.runs.specs.Calls as calls
-use Rattle.planner.specs.Text.{refusal, heading, eventLine, lineAt, each, each-same}
+use Rattle.text.specs.Text.{refusal, heading, eventLine, lineAt, each, each-same, recordText}
 
 -- a plan: the heading, and a line for each event
 abbrev pub planText : State → List ℕ
@@ -41,10 +41,6 @@ readText (refused c) = refusal (number c)
 
 unfoldable pub printed : List ℕ → List ℕ
 printed ticket = readText (wholly readTicket ticket)
-
--- the same of the program's struct of a record
-abbrev pub recordText : Record → ℕ → List ℕ
-recordText r sum = heading (r .ticket .events) sum ++ each (r .ticket .events) (lineAt (r .ticket .owners) (r .opens) (r .closes))
 
 pub record-text : (s : State) → Readable s → recordText (storedState s) (total (s .ticket) (s .windows)) ≡ planText s
 record-text s r = ap (λ (lines : List ℕ). heading (events (s .ticket)) (total (s .ticket) (s .windows)) ++ lines)

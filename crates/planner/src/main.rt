@@ -1,6 +1,6 @@
 // Prints the plan of the ticket on standard input, or the number under which the ticket is refused.
 // It reads at most one byte more than the longest ticket has, so its memory and its time do not grow with the input.
-mod text;
+mod print;
 
 ghost use mathlib.Core.Path.{_≡_};
 ghost use lib.ListN.{length};
@@ -23,6 +23,6 @@ fn main() {
     let mut ticket = input();
     let n = io::read_full(libc::STDIN_FILENO, &mut ticket);
     let mut text = output();
-    let k = text::print(&ticket[..n], &mut text);
+    let k = print::print(&ticket[..n], &mut text);
     io::write_all(libc::STDOUT_FILENO, &text[..k]);
 }

@@ -1,6 +1,6 @@
 // Planning and commitment on a ticket's struct: the best windows, by a network of opens and closes.
 // Event i + 1 has the places i of the arrays. An edge is four numbers of the lent slice: tail, head, biased cost, flow.
-// Rests on `ticket` for the struct, on `potentials` and `demands` for the network, on `schedule` for where to start, on `fitness` for the weights, and on `flow` for the widest windows.
+// Rests on `ticket` for the struct, on `potentials` and `demands` for the network, on `schedule` for where to start, on `flow` for the widest windows, and on `fitness` for the law of their total.
 
 ghost use mathlib.Core.Path.{_≡_};
 ghost use mathlib.Core.Bool.{true};
@@ -17,9 +17,23 @@ ghost use Rattle.ticket.specs.Writing.{content};
 ghost use Rattle.potentials.specs.Arrays.{windowList, flagList, Given, Within};
 ghost use Rattle.windows.specs.Promises.{Room, Planned, Committed};
 ghost use Rattle.windows.specs.Boxes.{Allowed};
+ghost use Rattle.windows.specs.Weights.{Weighs};
 ghost use Rattle.windows.specs.Widest.{Widened};
 ghost use Rattle.schedule.specs.Schedule.{Decided};
 ghost use Rattle.windows.specs.Settle.{Started, Asked};
+
+// The weights of the events, each that of its owner.
+fn weigh(n: usize, owners: &[u8; 40], weight: &mut [u32; 81])
+    requires { ⌜ n ≤ 40 ⌝ }
+    requires { ⌜ Weighs (now owners) (now weight) 0 ⌝ }
+    ensures { λ _. ⌜ Weighs (now (owners .entry)) (now (weight .exit)) n ⌝ }
+{
+    let mut i = 0;
+    while i < n {
+        weight[i + 1] = temporal::weight(owners[i]);
+        i += 1;
+    }
+}
 
 // From a potential that keeps the network to the widest one that is least, each event with the weight of its owner.
 fn widest(net: &mut [u32], n: usize, m: usize, owners: &[u8; 40], pot: &mut [u32; 81])
@@ -30,7 +44,7 @@ fn widest(net: &mut [u32], n: usize, m: usize, owners: &[u8; 40], pot: &mut [u32
     ensures { λ _. ⌜ length (now (net .exit)) ≡ length (now (net .entry)) ⌝ }
 {
     let mut weight = [0u32; 81];
-    fitness::weigh(n, owners, &mut weight);
+    weigh(n, owners, &mut weight);
     flow::solve(net, m, n, pot, &weight);
 }
 

@@ -1,5 +1,5 @@
 -- `widest` meets its contract, by those of `weigh` and `solve`.
-use Rattle.fitness.specs.Weights.{weighs-none}
+use Rattle.windows.specs.Weights.{weighs-none}
 use Rattle.windows.proofs.widest.Statement.{statement}
 use Rattle.windows.proofs.widest.Tie as tie
 

@@ -1,8 +1,8 @@
--- `planner::text::put_plan` meets its contract: the heading, and then the lines. Assumes nothing.
+-- `text::put_plan` meets its contract: the heading, and then the lines. Assumes nothing.
 use borrow.Author.Needs.{needs}
-use Rattle.planner.specs.Stores.{puts-then}
-use Rattle.planner.proofs.text.put_plan.Statement.{statement}
-use Rattle.planner.proofs.text.put_plan.Tie as tie
+use Rattle.text.specs.Stores.{puts-then}
+use Rattle.text.proofs.put_plan.Statement.{statement}
+use Rattle.text.proofs.put_plan.Tie as tie
 
 returns : tie.Need-returns
 returns c = puts-then (c .before .before .before .before .before .before .before .before .before .put-heading .ensures .0) (c .before .before .put-events .ensures)

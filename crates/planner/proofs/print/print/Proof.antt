@@ -1,4 +1,4 @@
--- `planner::text::print` meets its contract: what planning refuses is printed as refused, and otherwise the record that it wrote is read and
+-- `planner::print::print` meets its contract: what planning refuses is printed as refused, and otherwise the record that it wrote is read and
 -- printed. Assumes nothing.
 use mathlib.Core.Path.{_≡_, sym, ap, _∙_}
 use mathlib.Core.Bool.{true}
@@ -11,11 +11,11 @@ use Rattle.ticket.specs.Stored.{storedState}
 use Rattle.ticket.specs.declared.ReadRecord.{ReadRecord}
 use Rattle.runs.specs.Calls.{planning, room}
 use Rattle.plan.specs.declared.Answer.{Answer}
-use Rattle.planner.specs.Text.{refusal}
-use Rattle.planner.specs.Stores.{puts-as, puts-counts}
+use Rattle.text.specs.Text.{refusal}
+use Rattle.text.specs.Stores.{puts-as, puts-counts}
 use Rattle.planner.specs.Printed.{Said, has-room, printed-refused, printed-planned, said-record, said-text}
-use Rattle.planner.proofs.text.print.Statement.{statement}
-use Rattle.planner.proofs.text.print.Tie as tie
+use Rattle.planner.proofs.print.print.Statement.{statement}
+use Rattle.planner.proofs.print.print.Tie as tie
 
 -- planning has room
 space : (c : tie.After-scratch) → room (c .before .blank .result) (c .scratch .result) ≡ true

@@ -10,6 +10,7 @@ use mathlib.Core.Logic.{_⊎_, inl, inr, ⊎-elim}
 use native.Mathlib.Numerals.{add-one}
 use lib.Dec.{ltb}
 use Rattle.temporal.specs.Ticket.{Window}
+use Rattle.ticket.specs.declared.Record.{Record}
 use lib.ListN.{length, getD, length-append}
 
 -- ---- numbers
@@ -107,3 +108,7 @@ pub each-same : (k : ℕ) (f g : ℕ → List ℕ) → ((i : ℕ) → i < k → 
 unfolding each
 each-same zero f g h = refl
 each-same (suc k) f g h = rw (each-same k f g (λ i l. h i (omega arith)), h k (omega arith))
+
+-- a record's struct and a total: the heading, and a line for each event
+abbrev pub recordText : Record → ℕ → List ℕ
+recordText r sum = heading (r .ticket .events) sum ++ each (r .ticket .events) (lineAt (r .ticket .owners) (r .opens) (r .closes))

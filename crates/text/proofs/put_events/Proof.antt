@@ -1,11 +1,11 @@
--- `planner::text::put_events` meets its contract. The invariant: the lines of the first i events are put, 44 bytes each at most. Assumes nothing.
+-- `text::put_events` meets its contract. The invariant: the lines of the first i events are put, 44 bytes each at most. Assumes nothing.
 use Prim.Native.Nat.{_+_, _*_, _-_, _≤_}
 use mathlib.Core.Path.{_≡_}
 use native.Mathlib.Omega.{arith}
-use Rattle.planner.specs.Text.{each, each-none, each-more, lineAt}
-use Rattle.planner.specs.Stores.{Puts, puts-none, puts-then, puts-length}
-use Rattle.planner.proofs.text.put_events.Statement.{statement}
-use Rattle.planner.proofs.text.put_events.Tie as tie
+use Rattle.text.specs.Text.{each, each-none, each-more, lineAt}
+use Rattle.text.specs.Stores.{Puts, puts-none, puts-then, puts-length}
+use Rattle.text.proofs.put_events.Statement.{statement}
+use Rattle.text.proofs.put_events.Tie as tie
 
 abbrev Inv-loop : tie.InvT-loop
 Inv-loop out₀ at n owners opens closes next₀ i₀ out next i = (i ≤ n) × (next ≤ at + 44 * i) × Puts (each i (lineAt owners opens closes)) out₀ out at next

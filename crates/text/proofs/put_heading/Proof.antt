@@ -1,11 +1,11 @@
--- `planner::text::put_heading` meets its contract: the word and two parts are a line. Assumes nothing.
+-- `text::put_heading` meets its contract: the word and two parts are a line. Assumes nothing.
 use mathlib.Core.List.{append-assoc}
 use native.Mathlib.Omega.{arith}
 use borrow.Author.Needs.{needs}
-use Rattle.planner.specs.Text.{line}
-use Rattle.planner.specs.Stores.{puts-then}
-use Rattle.planner.proofs.text.put_heading.Statement.{statement}
-use Rattle.planner.proofs.text.put_heading.Tie as tie
+use Rattle.text.specs.Text.{line}
+use Rattle.text.specs.Stores.{puts-then}
+use Rattle.text.proofs.put_heading.Statement.{statement}
+use Rattle.text.proofs.put_heading.Tie as tie
 
 returns : tie.Need-returns
 unfolding line

@@ -1,13 +1,13 @@
--- `planner::text::put_word` meets its contract. The invariant: the first i bytes of the word are put. Assumes nothing.
+-- `text::put_word` meets its contract. The invariant: the first i bytes of the word are put. Assumes nothing.
 use Prim.Native.Nat.{ℕ, _+_, _-_, _≤_}
 use mathlib.Core.Path.{_≡_, ap, _∙_}
 use native.Mathlib.Nat.{add-zero}
 use native.Mathlib.Omega.{arith}
 use lib.ListN.{length, take}
 use lib.Seq.{take-length}
-use Rattle.planner.specs.Stores.{Puts, puts-none, puts-more, puts-length}
-use Rattle.planner.proofs.text.put_word.Statement.{statement}
-use Rattle.planner.proofs.text.put_word.Tie as tie
+use Rattle.text.specs.Stores.{Puts, puts-none, puts-more, puts-length}
+use Rattle.text.proofs.put_word.Statement.{statement}
+use Rattle.text.proofs.put_word.Tie as tie
 
 abbrev Inv-loop : tie.InvT-loop
 Inv-loop out₀ at word i₀ out i = (i ≤ length word) × Puts (take i word) out₀ out at (at + i)

@@ -1,9 +1,9 @@
--- `planner::text::put_refusal` meets its contract: the word and the number are a line. Assumes nothing.
+-- `text::put_refusal` meets its contract: the word and the number are a line. Assumes nothing.
 use borrow.Author.Needs.{needs}
-use Rattle.planner.specs.Text.{line}
-use Rattle.planner.specs.Stores.{puts-then}
-use Rattle.planner.proofs.text.put_refusal.Statement.{statement}
-use Rattle.planner.proofs.text.put_refusal.Tie as tie
+use Rattle.text.specs.Text.{line}
+use Rattle.text.specs.Stores.{puts-then}
+use Rattle.text.proofs.put_refusal.Statement.{statement}
+use Rattle.text.proofs.put_refusal.Tie as tie
 
 returns : tie.Need-returns
 unfolding line

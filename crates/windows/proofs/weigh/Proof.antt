@@ -3,9 +3,9 @@ use native.Mathlib.Omega.{arith}
 use borrow.Author.Needs.{needs}
 use Prim.Native.Nat.{_-_, _≤_}
 use mathlib.Core.Path.{_≡_}
-use Rattle.fitness.specs.Weights.{Weighs, weighs-more}
-use Rattle.fitness.proofs.weigh.Statement.{statement}
-use Rattle.fitness.proofs.weigh.Tie as tie
+use Rattle.windows.specs.Weights.{Weighs, weighs-more}
+use Rattle.windows.proofs.weigh.Statement.{statement}
+use Rattle.windows.proofs.weigh.Tie as tie
 
 abbrev Inv-loop : tie.InvT-loop
 Inv-loop n owners weight₀ i₀ weight i = (i ≤ n) × Weighs owners weight i

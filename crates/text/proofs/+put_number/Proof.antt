@@ -1,4 +1,4 @@
--- `planner::text::put_number` meets its contract, and ends since a tenth of a number above 9 is less than it. Assumes nothing.
+-- `text::put_number` meets its contract, and ends since a tenth of a number above 9 is less than it. Assumes nothing.
 use Prim.Native.Nat.{ℕ, _<_, _+_}
 use mathlib.Core.Path.{ap, _∙_}
 use native.Mathlib.Omega.{arith}
@@ -6,15 +6,15 @@ use borrow.Author.Needs.{needs}
 use borrow.Fn.Kinds.{In}
 use borrow.Fn.PlainCycle.{Measures, is, falls, and}
 use lib.ListN.{length, length-append}
-use Rattle.planner.specs.Text.{decimal-short, decimal-long}
-use Rattle.planner.specs.Stores.{puts-then, puts-length}
-use Rattle.planner.proofs.text.put_number.Reads as put-number
-use Rattle.planner.proofs.text.put_number.Kinds as put-number-kinds
-use Rattle.planner.proofs.text.+put_number.Lts-put_number as put-number-lts
-use Rattle.planner.proofs.text.digit.Reads as digit-reads
-use Rattle.planner.proofs.text.put_byte.Reads as put-byte-reads
-use Rattle.planner.proofs.text.+put_number.{statement}
-use Rattle.planner.proofs.text.+put_number.Tie.{close}
+use Rattle.text.specs.Text.{decimal-short, decimal-long}
+use Rattle.text.specs.Stores.{puts-then, puts-length}
+use Rattle.text.proofs.put_number.Reads as put-number
+use Rattle.text.proofs.put_number.Kinds as put-number-kinds
+use Rattle.text.proofs.+put_number.Lts-put_number as put-number-lts
+use Rattle.text.proofs.digit.Reads as digit-reads
+use Rattle.text.proofs.put_byte.Reads as put-byte-reads
+use Rattle.text.proofs.+put_number.{statement}
+use Rattle.text.proofs.+put_number.Tie.{close}
 
 abbrev μ-put-number : Measures 1 put-number-kinds.ps ℕ
 μ-put-number κs a = a .1 .1 .0

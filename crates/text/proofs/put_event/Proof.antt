@@ -1,11 +1,11 @@
--- `planner::text::put_event` meets its contract: four parts, one after another, are a line. Assumes nothing.
+-- `text::put_event` meets its contract: four parts, one after another, are a line. Assumes nothing.
 use mathlib.Core.List.{append-assoc}
 use native.Mathlib.Omega.{arith}
 use borrow.Author.Needs.{needs}
-use Rattle.planner.specs.Text.{line}
-use Rattle.planner.specs.Stores.{puts-then}
-use Rattle.planner.proofs.text.put_event.Statement.{statement}
-use Rattle.planner.proofs.text.put_event.Tie as tie
+use Rattle.text.specs.Text.{line}
+use Rattle.text.specs.Stores.{puts-then}
+use Rattle.text.proofs.put_event.Statement.{statement}
+use Rattle.text.proofs.put_event.Tie as tie
 
 returns : tie.Need-returns
 unfolding line

@@ -1,12 +1,12 @@
--- `planner::text::put_part` meets its contract: a number of 32 bits has at most ten digits. Assumes nothing.
+-- `text::put_part` meets its contract: a number of 32 bits has at most ten digits. Assumes nothing.
 use Prim.Native.Nat.{_≤_}
 use native.Mathlib.Omega.{arith}
 use borrow.Author.Needs.{needs}
 use lib.ListN.{length}
-use Rattle.planner.specs.Text.{decimal, decimal-length}
-use Rattle.planner.specs.Stores.{puts-then, puts-length}
-use Rattle.planner.proofs.text.put_part.Statement.{statement}
-use Rattle.planner.proofs.text.put_part.Tie as tie
+use Rattle.text.specs.Text.{decimal, decimal-length}
+use Rattle.text.specs.Stores.{puts-then, puts-length}
+use Rattle.text.proofs.put_part.Statement.{statement}
+use Rattle.text.proofs.put_part.Tie as tie
 
 ten : (c : tie.Start) → length (decimal (c .args .x)) ≤ 10
 ten c = decimal-length 10 (c .args .x) (omega arith) (omega arith)

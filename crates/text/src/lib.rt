@@ -1,13 +1,13 @@
 // The text of an answer, written into a lent slice. Each function answers the index after what it wrote.
+// Rests on `ticket` for the struct of a record.
+
 ghost use mathlib.Core.Path.{_≡_};
 ghost use Prim.Native.Nat.{_+_, _*_, _<_, _≤_};
 ghost use mathlib.Core.List.{[], _∷_, _++_};
 ghost use lib.ListN.{length};
-ghost use Rattle.io.specs.Counts.{Counts};
-ghost use Rattle.planner.specs.Text.{decimal, refusal, heading, eventLine, each, lineAt};
-ghost use Rattle.planner.specs.Text.{digit as Text·digit};
-ghost use Rattle.planner.specs.Stores.{Puts};
-ghost use Rattle.planner.specs.Printed.{recordText, printed};
+ghost use Rattle.text.specs.Text.{decimal, refusal, heading, eventLine, each, lineAt, recordText};
+ghost use Rattle.text.specs.Text.{digit as Text·digit};
+ghost use Rattle.text.specs.Stores.{Puts};
 use ticket::Record;
 
 fn digit(d: u32) -> u8
@@ -101,7 +101,8 @@ fn put_heading(out: &mut [u8], n: u32, total: u32) -> usize
     put_part(out, b, total, b'\n')
 }
 
-fn put_refusal(out: &mut [u8], number: u32) -> usize
+// A refusal.
+pub fn put_refusal(out: &mut [u8], number: u32) -> usize
     requires { ⌜ 19 ≤ length (now out) ⌝ }
     ensures { λ r. ⌜ Puts (refusal number) (now (out .entry)) (now (out .exit)) 0 r ⌝ }
 {
@@ -110,7 +111,7 @@ fn put_refusal(out: &mut [u8], number: u32) -> usize
 }
 
 // A plan.
-fn put_plan(out: &mut [u8], plan: Record, total: u32) -> usize
+pub fn put_plan(out: &mut [u8], plan: Record, total: u32) -> usize
     requires { ⌜ (plan .ticket .events ≤ 40) × (1787 ≤ length (now out)) ⌝ }
     ensures { λ r. ⌜ Puts (recordText plan total) (now (out .entry)) (now (out .exit)) 0 r ⌝ }
 {
@@ -121,36 +122,4 @@ fn put_plan(out: &mut [u8], plan: Record, total: u32) -> usize
     let closes = plan.closes;
     let next = put_heading(out, n as u32, total);
     put_events(out, next, n, &owners, &opens, &closes)
-}
-
-// Output and scratch of planning; as a call's result neither is a list of literals in the proofs.
-fn blank() -> [u8; 1948]
-    ensures { λ r. ⌜ 1948 ≡ length r ⌝ }
-{
-    [0u8; 1948]
-}
-
-fn scratch() -> [u32; 8192]
-    ensures { λ r. ⌜ 8192 ≡ length r ⌝ }
-{
-    [0u32; 8192]
-}
-
-// What the program prints for a ticket.
-pub fn print(ticket: &[u8], text: &mut [u8]) -> usize
-    requires { ⌜ 1787 ≤ length (now text) ⌝ }
-    ensures { λ r. ⌜ Puts (printed (now (ticket .entry))) (now (text .entry)) (now (text .exit)) 0 r ⌝ }
-    ensures { λ r. ⌜ Counts r (now (text .exit)) ⌝ }
-{
-    let mut out = blank();
-    let mut lent = scratch();
-    let answer = plan::plan(ticket, &mut out, &mut lent);
-    let number = answer.number;
-    if number != 0 {
-        return put_refusal(text, number);
-    }
-    let n = answer.length;
-    let read = reading_records::read_record(&out[..n]);
-    let plan = read.plan;
-    put_plan(text, plan, answer.total)
 }

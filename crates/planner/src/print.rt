@@ -1,0 +1,41 @@
+// What the program prints for the bytes of a ticket: they are planned, and the record that planning wrote is read and printed.
+// Rests on `plan`, on `reading_records` for the record, and on `text` for its text.
+
+ghost use mathlib.Core.Path.{_≡_};
+ghost use Prim.Native.Nat.{_≤_};
+ghost use lib.ListN.{length};
+ghost use Rattle.io.specs.Counts.{Counts};
+ghost use Rattle.text.specs.Stores.{Puts};
+ghost use Rattle.planner.specs.Printed.{printed};
+
+// Output and scratch of planning; as a call's result neither is a list of literals in the proofs.
+fn blank() -> [u8; 1948]
+    ensures { λ r. ⌜ 1948 ≡ length r ⌝ }
+{
+    [0u8; 1948]
+}
+
+fn scratch() -> [u32; 8192]
+    ensures { λ r. ⌜ 8192 ≡ length r ⌝ }
+{
+    [0u32; 8192]
+}
+
+// What the program prints for a ticket.
+pub fn print(ticket: &[u8], text: &mut [u8]) -> usize
+    requires { ⌜ 1787 ≤ length (now text) ⌝ }
+    ensures { λ r. ⌜ Puts (printed (now (ticket .entry))) (now (text .entry)) (now (text .exit)) 0 r ⌝ }
+    ensures { λ r. ⌜ Counts r (now (text .exit)) ⌝ }
+{
+    let mut out = blank();
+    let mut lent = scratch();
+    let answer = plan::plan(ticket, &mut out, &mut lent);
+    let number = answer.number;
+    if number != 0 {
+        return text::put_refusal(text, number);
+    }
+    let n = answer.length;
+    let read = reading_records::read_record(&out[..n]);
+    let plan = read.plan;
+    text::put_plan(text, plan, answer.total)
+}
