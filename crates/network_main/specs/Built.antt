@@ -10,7 +10,7 @@ use lib.Seq.{getD-set-same, getD-set-other}
 use Rattle.network.specs.Stored.{at}
 use Rattle.network.specs.Edges.{EdgeIs, extends-edge, Boxes}
 use Rattle.network.specs.Grow.{Flowless, Growing, boxes-growing}
-use Rattle.search.specs.Admit.{Fits, Admits}
+use Rattle.admit.specs.Admit.{Fits, Admits}
 use Rattle.flow.specs.Solve.{Spans}
 
 -- the bounds of the nodes from 1 on and below k

@@ -17,7 +17,7 @@ use Rattle.network.specs.Network.{Meets}
 use Rattle.network.specs.Stored.{at, stored}
 use Rattle.network.specs.Edges.{edge-meets, meets-edge, Boxes, boxes-kept, by-boxes}
 use Rattle.network.specs.Grow.{Growing, boxes-growing}
-use Rattle.search.specs.Admit.{Admits}
+use Rattle.admit.specs.Admit.{Admits}
 use Rattle.ticket.specs.declared.Ticket.{Ticket}
 use Rattle.potentials.specs.Arrays.{Given}
 use Rattle.potentials.specs.Nodes.{close-self}

@@ -1,12 +1,12 @@
 // A schedule of a ticket's struct, where there is one: by relaxation, else by a network of the points that grows rule by rule.
-// Rests on `ticket` for the struct, on `demands` for the rules, on `network` for the edges, and on `search` for what admits one more.
+// Rests on `ticket` for the struct, on `demands` for the rules, on `network` for the edges, and on `admit` for adding one more.
 
 ghost use mathlib.Core.Path.{_≡_};
 ghost use Prim.Native.Nat.{_+_, _*_, _<_, _≤_};
 ghost use lib.ListN.{length};
 ghost use Rattle.temporal.specs.Bound.{biased};
 ghost use Rattle.network.specs.Grow.{Growing};
-ghost use Rattle.search.specs.Admit.{Admits};
+ghost use Rattle.admit.specs.Admit.{Admits};
 ghost use Rattle.potentials.specs.Arrays.{Given};
 ghost use Rattle.demands.specs.Rules.{Small};
 ghost use Rattle.schedule.specs.Schedule.{Low, Tried, Decided};
@@ -88,7 +88,7 @@ fn admit_rule(
     requires { ⌜ (n ≤ 40) × (j < 256) × (4 * (2 * n + j) + 3 < length (now net)) ⌝ }
     ensures { λ r. ⌜ Admits (now (net .entry)) (now (net .exit)) (2 * n + j) (n + 1) (now (times .exit)) (now (tails .exit)) (now (heads .exit)) from to (biased bound) r ⌝ }
 {
-    search::admit(
+    admit::admit(
         net,
         2 * n + j,
         n + 1,

@@ -1,5 +1,5 @@
 // Searches in a difference network. A search from a root finds the nodes from which it is reached over edges with no slack, and over edges with flow
-// backwards; it goes on by distances. At its end, at distance d, the nodes nearer than d are raised once, each by what it lacks of d. By a search one demand is added.
+// backwards; it goes on by distances. At its end, at distance d, the nodes nearer than d are raised once, each by what it lacks of d.
 // Rests on crate network, which stores the edges, and on crates visit and scan, which make the steps of a search.
 
 ghost use mathlib.Core.Path.{_≡_};
@@ -11,9 +11,6 @@ ghost use Rattle.search.specs.Nearest.{LeastKey, Nearest};
 ghost use Rattle.network.specs.Index.{Index};
 ghost use Rattle.search.specs.Raise.{Room, Shifted};
 ghost use Rattle.search.specs.Reach.{Goals, Begins, Explored};
-ghost use Rattle.network.specs.Grow.{Growing};
-ghost use Rattle.search.specs.Admit.{Approached, Fits, Admits};
-use network::BIAS;
 use visit::FAR;
 
 // The least of the keys.
@@ -201,67 +198,4 @@ pub fn reach(
         raise(pot, &dist, nodes, found.dist);
     }
     found.node
-}
-
-// Where the demand of an edge from a to b at the biased cost c fails, move the potential as far towards it as the edges allow.
-fn approach(
-    net: &[u32],
-    m: usize,
-    nodes: usize,
-    tails: &[u32; 400],
-    heads: &[u32; 400],
-    pot: &mut [u32; 81],
-    a: usize,
-    b: usize,
-    c: u32,
-)
-    requires { ⌜ Growing (now net) m nodes (now pot) (now tails) (now heads) ⌝ }
-    requires { ⌜ (a < nodes) × (b < nodes) × (c ≤ 2000000) ⌝ }
-    ensures { λ _. ⌜ Approached (now (net .entry)) m nodes (now (pot .exit)) (now (tails .entry)) (now (heads .entry)) a b c ⌝ }
-{
-    if pot[a] + c < pot[b] + BIAS {
-        let mut stamp = [0usize; 81];
-        let mut via = [0usize; 81];
-        let mut goal = [0u32; 81];
-        goal[b] = 1;
-        reach(
-            net,
-            m,
-            nodes,
-            tails,
-            heads,
-            pot,
-            &mut stamp,
-            &mut via,
-            a,
-            &goal,
-        );
-    }
-}
-
-// Store edge m from a to b at the biased cost c. Admit it to the network, with the potential moved as need be, if some potential meets its demand and those of the edges before it.
-pub fn admit(
-    net: &mut [u32],
-    m: usize,
-    nodes: usize,
-    tails: &mut [u32; 400],
-    heads: &mut [u32; 400],
-    pot: &mut [u32; 81],
-    a: usize,
-    b: usize,
-    c: u32,
-) -> bool
-    requires { ⌜ Growing (now net) m nodes (now pot) (now tails) (now heads) ⌝ }
-    requires { ⌜ Fits (now net) m nodes a b c ⌝ }
-    ensures { λ r. ⌜ Admits (now (net .entry)) (now (net .exit)) m nodes (now (pot .exit)) (now (tails .exit)) (now (heads .exit)) a b c r ⌝ }
-{
-    network::put(net, m, a, b, c);
-    approach(net, m, nodes, tails, heads, pot, a, b, c);
-    if pot[a] + c < pot[b] + BIAS {
-        return false;
-    }
-    let place = 81 + (m + 2 - 2 * nodes);
-    network::link(tails, place, a, m);
-    network::link(heads, place, b, m);
-    true
 }

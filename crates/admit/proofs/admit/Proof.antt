@@ -5,9 +5,9 @@ use mathlib.Core.Path.{refl}
 use Rattle.network.specs.Stored.{pot-bound}
 use Rattle.network.specs.Index.{listing-fits}
 use Rattle.network.specs.Grow.{extends-growing}
-use Rattle.search.specs.Admit.{admits-yes, admits-no}
-use Rattle.search.proofs.admit.Statement.{statement}
-use Rattle.search.proofs.admit.Tie as tie
+use Rattle.admit.specs.Admit.{admits-yes, admits-no}
+use Rattle.admit.proofs.admit.Statement.{statement}
+use Rattle.admit.proofs.admit.Tie as tie
 
 put-requires : tie.Need-put-requires
 put-requires c κs =

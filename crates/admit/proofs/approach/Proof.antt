@@ -3,9 +3,9 @@ use native.Mathlib.Omega.{arith}
 use borrow.Author.Needs.{needs}
 use mathlib.Core.Path.{refl}
 use Rattle.network.specs.Stored.{pot-bound}
-use Rattle.search.specs.Admit.{approached-now, approached-search}
-use Rattle.search.proofs.approach.Statement.{statement}
-use Rattle.search.proofs.approach.Tie as tie
+use Rattle.admit.specs.Admit.{approached-now, approached-search}
+use Rattle.admit.proofs.approach.Statement.{statement}
+use Rattle.admit.proofs.approach.Tie as tie
 
 add-if1 : tie.Need-add-if1
 add-if1 c =
