@@ -1,6 +1,6 @@
 // The widest potential of a difference network, and of the widest the least: by a flow that proves it.
 // Event i of 1 to n has a lo node, i, and a hi node, n + i: its weight runs from lo nodes to its hi node over edges with no slack.
-// Rests on crates network, which stores the edges, search, which searches among them, edge for single edges, warm for the potential to start from, and path for the paths that are found.
+// Rests on crates network, which stores the edges, search, which searches among them, edge and carry for single edges, warm for the potential to start from, and path for the paths that are found.
 
 ghost use mathlib.Core.Path.{_≡_};
 ghost use Prim.Native.Nat.{ℕ, _+_, _*_, _-_, _<_};
@@ -50,7 +50,7 @@ fn start(
 {
     let mut e = 4 * n;
     while e < m {
-        edge::carry(net, pot, n, e, supply, demand);
+        carry::carry(net, pot, n, e, supply, demand);
         e += 1;
     }
 }
@@ -94,7 +94,7 @@ fn serve(
                 supply,
                 want,
             );
-            edge::take(demand, i, f);
+            carry::take(demand, i, f);
         } else {
             i += 1;
         }

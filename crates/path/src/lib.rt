@@ -1,5 +1,5 @@
 // The path that a search found, by links from a node to the root: how much flow it has room for, and that flow pushed along it.
-// Rests on crate network, which stores the edges, on search for the tree of links, and on edge for what is taken off a supply.
+// Rests on crate network, which stores the edges, on search for the tree of links, on carry for what is taken off a supply, and on edge for where an edge stands.
 
 ghost use mathlib.Core.Path.{_≡_};
 ghost use Prim.Native.Nat.{_+_, _*_, _-_, _<_, _≤_, min};
@@ -92,6 +92,6 @@ pub fn push(
         let e = via[cur];
         cur = walk(net, e, cur, f);
     }
-    edge::take(supply, start, f);
+    carry::take(supply, start, f);
     f
 }

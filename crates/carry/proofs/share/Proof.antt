@@ -1,9 +1,9 @@
 -- `share` meets its contract, by those of `limit`, `event` and `least`.
 use borrow.Author.Needs.{needs}
 use mathlib.Core.Path.{sym, _∙_}
-use Rattle.edge.specs.Carry.{share-least}
-use Rattle.edge.proofs.share.Statement.{statement}
-use Rattle.edge.proofs.share.Tie as tie
+use Rattle.carry.specs.Carry.{share-least}
+use Rattle.carry.proofs.share.Statement.{statement}
+use Rattle.carry.proofs.share.Tie as tie
 
 returns : tie.Need-returns
 returns c = share-least (c .before .before .before .event .ensures) (c .least .ensures) (sym (c .before .before .before .before .before .if1 .taken) ∙ c .before .before .before .before .before .before .before .limit .ensures)

@@ -2,9 +2,9 @@
 use native.Mathlib.Omega.{arith}
 use borrow.Author.Needs.{needs, fits-under}
 use mir.Syntax.{w32}
-use Rattle.edge.specs.Carry.{wanted-sum, share-to, carried-some, carried-none}
-use Rattle.edge.proofs.carry.Statement.{statement}
-use Rattle.edge.proofs.carry.Tie as tie
+use Rattle.carry.specs.Carry.{wanted-sum, share-to, carried-some, carried-none}
+use Rattle.carry.proofs.carry.Statement.{statement}
+use Rattle.carry.proofs.carry.Tie as tie
 
 share-requires : tie.Need-share-requires
 share-requires c κs = c .before .before .before .before .pre .0
