@@ -1,11 +1,7 @@
 -- Laws for the proofs of the code in src/lib.rt. What the two calls mean stands in crate `runs` (Calls), with the theorem over runs.
 --   Returned  the part of an outcome that the answer struct holds: the contracts are equations through it
---   Structs   what the structs of `ticket` hold, and the records that the code hands on
 --   Steps     one planning and one commitment as the code takes them
---   Zeroed    clearing the scratch
 --   Meets     what the inner functions leave before the scratch is cleared
-pub mod Zeroed
 pub mod Returned
-pub mod Structs
 pub mod Steps
 pub mod Meets

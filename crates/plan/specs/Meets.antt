@@ -1,15 +1,9 @@
 -- What the code's inner functions leave, as far as it is settled before the scratch is cleared: the answer, the output, and the scratch past its first 8,192 numbers.
 -- The laws follow the code: a refusal, an accepted call, a reading, and the two doors.
 use mathlib.Core.Path.{_≡_, refl, sym, ap, subst, _∙_}
-use mathlib.Core.Bool.{Bool, true, false, not, _&&_}
 use mathlib.Core.List.{List}
-use mathlib.Core.Logic.{⊎-elim}
-use Prim.Native.Nat.{ℕ, _≤_, _<_}
-use native.Mathlib.Omega.{arith}
-use borrow.Author.Tests.{le-leb, lt-leb, lt-ltb, le-ltb}
-use lib.Dec.{leb, ltb, leb→le}
+use Prim.Native.Nat.{ℕ}
 use lib.ListN.{length}
-use Rattle.temporal.specs.Lists.{T-pair, below-or-not}
 use Rattle.temporal.specs.Ticket as temporal
 use Rattle.temporal.specs.Ticket.{total}
 use Rattle.temporal.specs.Plan.{State, Answer as Decision, accepted, refused, plan}
@@ -24,10 +18,10 @@ use Rattle.ticket.specs.RoundTrip.{Bytes, written-read, written-read-state}
 use Rattle.ticket.specs.Laws.{was-refused, was-got}
 use Rattle.ticket.specs.declared.ReadTicket.{ReadTicket}
 use Rattle.ticket.specs.declared.ReadRecord.{ReadRecord}
-use Rattle.plan.specs.Zeroed.{past, zeroed-rest}
-use Rattle.runs.specs.Calls.{Outcome, room, zeroed, cleared, withoutRoom, answered, afterReading}
+use Rattle.causes.specs.Zeroed.{past, zeroed-rest}
+use Rattle.runs.specs.Calls.{Outcome, zeroed, cleared, withoutRoom, answered, afterReading}
 use Rattle.ticket.specs.Agree.{content-stored}
-use Rattle.plan.specs.Structs.{state-of, Kept, kept-read}
+use Rattle.causes.specs.Structs.{state-of, Kept, kept-read}
 use Rattle.plan.specs.Returned.{returned}
 use Rattle.plan.specs.declared.Answer.{Answer}
 
@@ -121,34 +115,6 @@ module _ (bytes : List ℕ) {x : ReadRecord} (e : x ≡ wholeRecord bytes) (deci
         (ap (λ s. answered out scratch (decide s)) (ap stateOf struct-state ∙ state-of (read-state .0) readable) ∙ ap (afterReading out scratch decide) (sym (read-state .2))) m
 
 -- ---- the doors
-
--- a test and its opposite
-pub ltb-leb : (m n : ℕ) → ltb m n ≡ not (leb n m)
-ltb-leb m n = ⊎-elim (λ (l : m < n). rw (lt-ltb m n l, lt-leb n m l)) (λ (l : n ≤ m). rw (le-ltb m n l, le-leb n m l)) (below-or-not m n)
-
--- what `short` says of the output and the scratch
-module _ (out scratch : List ℕ) {r : Bool} (e : r ≡ not (leb 1948 (length out) && leb 8192 (length scratch))) where
-  pub short-room : r ≡ true → room out scratch ≡ false
-  unfolding room
-  short-room q = by (leb 1948 (length out) && leb 8192 (length scratch)) (sym e ∙ q)
-    where
-      by : (b : Bool) → not b ≡ true → b ≡ false
-      by true h = absurd (let z : _≡_ {A = ℕ} 0 1 = cc in omega arith)
-      by false h = refl
-
-  pub long-room : r ≡ false → room out scratch ≡ true
-  unfolding room
-  long-room q = by (leb 1948 (length out) && leb 8192 (length scratch)) (sym e ∙ q)
-    where
-      by : (b : Bool) → not b ≡ false → b ≡ true
-      by true h = refl
-      by false h = absurd (let z : _≡_ {A = ℕ} 0 1 = cc in omega arith)
-
-  pub long-enough : r ≡ false → (1948 ≤ length out) × (8192 ≤ length scratch)
-  unfolding room
-  long-enough q =
-      let p = T-pair (leb 1948 (length out)) (leb 8192 (length scratch)) (rw (long-room q) tt) in
-      (leb→le 1948 (length out) (p .0), leb→le 8192 (length scratch) (p .1))
 
 -- all that a call answers and leaves
 abbrev pub Whole : Outcome → Answer → List ℕ → List ℕ → Type 0

@@ -1,16 +1,15 @@
 -- One planning and one commitment as the code takes them: what is asked of `windows`, what comes back, and that it is kept.
 use mathlib.Core.Path.{_≡_, refl, sym, ap, subst, _∙_}
-use mathlib.Core.Bool.{Bool, true, false, not, cond, _||_}
+use mathlib.Core.Bool.{Bool, true, false, cond}
 use mathlib.Core.List.{List, [], _∷_}
 use Prim.Native.Nat.{ℕ, _+_, _-_, _≤_, _<_}
 use native.Mathlib.Numerals.{add-one}
 use native.Mathlib.Omega.{arith}
 use native.Mathlib.Decide.{ℕ-discrete}
 use borrow.Author.Tests.{ne-eqb}
-use lib.Dec.{eqb, ltb}
 use lib.ListN.{length, set, replicate}
 use lib.Seq.{getD-set-same, getD-set-other}
-use Rattle.temporal.specs.Ticket.{Ticket, fits, total}
+use Rattle.temporal.specs.Ticket.{Ticket, total}
 use Rattle.temporal.specs.Plan.{State, Commitment, accepted, refused, plan, cause, commit, asking}
 use Rattle.temporal.specs.Run.{Valid, Readable, Event}
 use Rattle.temporal.specs.Run as states
@@ -23,10 +22,10 @@ use Rattle.ticket.specs.Writing.{content, stateOf, over, recordWritten, recordO
 use Rattle.ticket.specs.declared.Written.{Written}
 use Rattle.ticket.specs.declared.Ticket.{Ticket as Struct}
 use Rattle.ticket.specs.declared.Record.{Record}
-use Rattle.potentials.specs.Arrays.{windowList, in-events, in-rules, Lie, Within}
+use Rattle.potentials.specs.Arrays.{windowList, in-events, in-rules, Within}
 use Rattle.windows.specs.Promises.{stateIn, Room, Planned, Committed}
 use Rattle.windows.specs.Settle.{Asked}
-use Rattle.plan.specs.Structs.{Past, zeros-past, within-past, set-past, Kept, kept-few, kept-lies, kept-written, flag-of, open-of, close-of}
+use Rattle.causes.specs.Structs.{Past, zeros-past, within-past, set-past, Kept, kept-few, kept-written}
 use Rattle.plan.specs.declared.Answer.{Answer}
 
 -- ---- what an accepted call leaves is readable
@@ -47,32 +46,9 @@ edges-room t net opens closes v l o c = record {
   closes-long = c;
 }
 
--- ---- the first cause by numbers: whether the windows are fit, n events, the event, its flag, whether the window named leaves the one that the event has
-
-abbrev pub firstCause : Bool → ℕ → ℕ → Bool → Bool → ℕ
-firstCause fit n event committed leaves =
-    cond (not fit) 15
-    (cond (eqb event 0 || ltb n event) 11
-    (cond committed 12
-    (cond leaves 13
-    0)))
+-- ---- a commitment that is accepted
 
 module _ (r : Record) (ok : Kept r) (event opens closes : ℕ) where
-  pub cause-of : cause (stateOf r) (asking event opens closes)
-      ≡ firstCause (fits (content (r .ticket)) (stateOf r .windows)) (r .ticket .events) event (eqb (at (0 ∷ r .flags) event) 1)
-      (ltb closes opens || (ltb opens (at (0 ∷ r .opens) event) || ltb (at (0 ∷ r .closes) event) closes))
-  unfolding cause
-  cause-of = rw (in-events (r .ticket), flag-of r ok event, open-of r ok event, close-of r ok event)
-
-  pub cause-told : {fit committed leaves : Bool} {first last k : ℕ}
-      → fits (content (r .ticket)) (windowList (r .ticket .events) (r .opens) (r .closes)) ≡ fit
-      → committed ≡ eqb (at (0 ∷ r .flags) event) 1 → first ≡ at (0 ∷ r .opens) event → last ≡ at (0 ∷ r .closes) event
-      → leaves ≡ (ltb closes opens || (ltb opens first || ltb last closes)) → k ≡ firstCause fit (r .ticket .events) event committed leaves → k ≡ cause (stateOf r) (asking event opens closes)
-  unfolding windowList
-  cause-told f p x y o q =
-      let l = o ∙ (λ i. ltb closes opens || (ltb opens (x i) || ltb (y i) closes)) in
-      q ∙ (λ i. firstCause (sym f i) (r .ticket .events) event (p i) (l i)) ∙ sym cause-of
-
   -- the number of accepted commitments does not count
   cause-count : (m : ℕ) → cause (stateIn (r .ticket) (r .flags) (r .opens) (r .closes) m) (asking event opens closes) ≡ cause (stateOf r) (asking event opens closes)
   unfolding cause
@@ -153,11 +129,6 @@ module _ {t : Struct} where
 pub commit-refused : (s : State) (c : Commitment) {k : ℕ} → k ≡ cause s c → (k ≡ 0 → ⊥) → commit s c ≡ refused k
 unfolding commit
 commit-refused s c {k} e n = rw (← e, ne-eqb k 0 n)
-
--- ---- windows, to be tested and summed
-
-pub lies-asked : {r : Record} → Kept r → Valid (content (r .ticket)) × Lie (r .ticket) (r .opens) (r .closes)
-lies-asked {r} ok = (ok .readable .valid, kept-lies r ok)
 
 -- ---- the record written
 

@@ -4,7 +4,8 @@ use Rattle.temporal.specs.Plan.{State, commit, asking}
 use Rattle.ticket.specs.Parser.{wholly}
 use Rattle.ticket.specs.Format.{readState}
 use Rattle.runs.specs.Calls.{committing-read, committing-short}
-use Rattle.plan.specs.Meets.{short-room, long-room, long-enough, whole-short, whole-read}
+use Rattle.causes.specs.Room.{short-room, long-room, long-enough}
+use Rattle.plan.specs.Meets.{whole-short, whole-read}
 use borrow.Author.Needs.{needs}
 use Rattle.plan.proofs.commit.Statement.{statement}
 use Rattle.plan.proofs.commit.Tie as tie

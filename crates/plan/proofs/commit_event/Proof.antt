@@ -2,8 +2,8 @@
 use mathlib.Core.Path.{sym, _∙_}
 use native.Mathlib.Omega.{arith}
 use lib.Seq.{length-take-le}
-use Rattle.plan.specs.Zeroed.{past-part}
-use Rattle.plan.specs.Structs.{kept-number}
+use Rattle.causes.specs.Zeroed.{past-part}
+use Rattle.causes.specs.Structs.{kept-number}
 use Rattle.plan.specs.Steps.{commit-asked, kept-committed}
 use borrow.Author.Needs.{needs}
 use Rattle.plan.proofs.commit_event.Statement.{statement}

@@ -3,7 +3,7 @@ use mathlib.Core.Path.{refl, sym, _∙_}
 use native.Mathlib.Omega.{arith}
 use borrow.Author.Tests.{not-true, not-false}
 use lib.Seq.{length-take-le}
-use Rattle.plan.specs.Zeroed.{past-part}
+use Rattle.causes.specs.Zeroed.{past-part}
 use Rattle.plan.specs.Steps.{plan-asked, planned-none, planned-some, kept-planned}
 use Rattle.plan.specs.Meets.{meets-refused, meets-accepted}
 use borrow.Author.Needs.{needs}

@@ -1,5 +1,6 @@
 -- `plan::write_out` meets its contract: what is written of a kept record, and its total. Assumes nothing.
-use Rattle.plan.specs.Steps.{lies-asked, written-out}
+use Rattle.causes.specs.Structs.{lies-asked}
+use Rattle.plan.specs.Steps.{written-out}
 use borrow.Author.Needs.{needs}
 use Rattle.plan.proofs.write_out.Statement.{statement}
 use Rattle.plan.proofs.write_out.Tie as tie

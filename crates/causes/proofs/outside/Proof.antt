@@ -1,7 +1,7 @@
--- `plan::outside` meets its contract. Assumes nothing.
+-- `causes::outside` meets its contract. Assumes nothing.
 use borrow.Author.Tests.{lt-ltb, le-ltb}
-use Rattle.plan.proofs.outside.Statement.{statement}
-use Rattle.plan.proofs.outside.Tie as tie
+use Rattle.causes.proofs.outside.Statement.{statement}
+use Rattle.causes.proofs.outside.Tie as tie
 
 returns : tie.Need-returns
 returns c = simp (lt-ltb _ _ (c .if1 .taken))

@@ -1,10 +1,10 @@
--- `plan::cause` meets its contract: the tests are those of `temporal`, in arrays. Assumes nothing.
+-- `causes::cause` meets its contract: the tests are those of `temporal`, in arrays. Assumes nothing.
 use native.Mathlib.Omega.{arith}
-use Rattle.plan.specs.Structs.{kept-few}
-use Rattle.plan.specs.Steps.{lies-asked, cause-told}
+use Rattle.causes.specs.Structs.{kept-few, lies-asked}
+use Rattle.causes.specs.FirstCause.{cause-told}
 use borrow.Author.Needs.{needs}
-use Rattle.plan.proofs.cause.Statement.{statement}
-use Rattle.plan.proofs.cause.Tie as tie
+use Rattle.causes.proofs.cause.Statement.{statement}
+use Rattle.causes.proofs.cause.Tie as tie
 
 fit-requires : tie.Need-fit-requires
 fit-requires c κs = lies-asked (c .before .before .before .before .before .before .pre)

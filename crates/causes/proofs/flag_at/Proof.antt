@@ -1,13 +1,13 @@
--- `plan::flag_at` meets its contract. Assumes nothing.
+-- `causes::flag_at` meets its contract. Assumes nothing.
 use mathlib.Core.Path.{sym, ap}
 use mathlib.Core.List.{_∷_}
 use native.Mathlib.Omega.{arith}
 use lib.Dec.{eqb}
 use Rattle.temporal.specs.Lists.{getD-past}
-use Rattle.plan.specs.Structs.{point-in}
+use Rattle.causes.specs.Structs.{point-in}
 use borrow.Author.Needs.{needs}
-use Rattle.plan.proofs.flag_at.Statement.{statement}
-use Rattle.plan.proofs.flag_at.Tie as tie
+use Rattle.causes.proofs.flag_at.Statement.{statement}
+use Rattle.causes.proofs.flag_at.Tie as tie
 
 returns : tie.Need-returns
 returns c = rw (c .if1 .taken)

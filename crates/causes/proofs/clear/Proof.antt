@@ -1,13 +1,13 @@
--- `plan::clear` meets its contract. The loop's invariant: the first i numbers are 0, and the rest is as it was. Assumes nothing.
+-- `causes::clear` meets its contract. The loop's invariant: the first i numbers are 0, and the rest is as it was. Assumes nothing.
 use mathlib.Core.Path.{_≡_, ap, _∙_}
 use Prim.Native.Nat.{_≤_, _-_}
 use borrow.Author.Needs.{needs}
 use native.Mathlib.Omega.{arith}
 use lib.ListN.{length, set}
 use Rattle.runs.specs.Calls.{zeroed}
-use Rattle.plan.specs.Zeroed.{zeroed-none, zeroed-more, zeroed-length}
-use Rattle.plan.proofs.clear.Statement.{statement}
-use Rattle.plan.proofs.clear.Tie as tie
+use Rattle.causes.specs.Zeroed.{zeroed-none, zeroed-more, zeroed-length}
+use Rattle.causes.proofs.clear.Statement.{statement}
+use Rattle.causes.proofs.clear.Tie as tie
 
 abbrev Inv-loop : tie.InvT-loop
 Inv-loop scratch₀ i₀ scratch i = (i ≤ 8192) × (8192 ≤ length scratch₀) × (scratch ≡ zeroed i scratch₀)

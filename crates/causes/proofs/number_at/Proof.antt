@@ -1,12 +1,12 @@
--- `plan::number_at` meets its contract. Assumes nothing.
+-- `causes::number_at` meets its contract. Assumes nothing.
 use mathlib.Core.Path.{sym}
 use mathlib.Core.List.{_∷_}
 use native.Mathlib.Omega.{arith}
 use Rattle.temporal.specs.Lists.{getD-past}
-use Rattle.plan.specs.Structs.{point-in}
+use Rattle.causes.specs.Structs.{point-in}
 use borrow.Author.Needs.{needs}
-use Rattle.plan.proofs.number_at.Statement.{statement}
-use Rattle.plan.proofs.number_at.Tie as tie
+use Rattle.causes.proofs.number_at.Statement.{statement}
+use Rattle.causes.proofs.number_at.Tie as tie
 
 returns : tie.Need-returns
 returns c = search needs

@@ -13,7 +13,7 @@ use Rattle.temporal.specs.Lists.{below-or-not, by-points, getD-past}
 use Rattle.temporal.specs.Ticket as temporal
 use Rattle.temporal.specs.Ticket.{Window, events, origin}
 use Rattle.temporal.specs.Plan.{State, flagged}
-use Rattle.temporal.specs.Run.{Readable}
+use Rattle.temporal.specs.Run.{Valid, Readable}
 use Rattle.network.specs.Stored.{at}
 use Rattle.network.specs.Lists.{zeros-at}
 use Rattle.ticket.specs.Parser.{got}
@@ -168,6 +168,11 @@ module _ (r : Record) (ok : Kept r) where
   kept-written out l =
       let e : writingRecord out r [] ≡ got (writeState (stateOf r)) [] = ap (λ q. writingRecord out q []) kept-stored ∙ readable-written out (stateOf r) (ok .readable) l in
       (ap (λ o. told o .length) e, ap (left out) e)
+
+-- ---- windows, to be tested and summed
+
+pub lies-asked : {r : Record} → Kept r → Valid (content (r .ticket)) × Lie (r .ticket) (r .opens) (r .closes)
+lies-asked {r} ok = (ok .readable .valid, kept-lies r ok)
 
 -- the number of a point in an array
 pub point-in : (xs : List ℕ) (p : ℕ) → (p ≡ 0 → ⊥) → at xs (p - 1) ≡ at (0 ∷ xs) p

@@ -1,8 +1,8 @@
--- `plan::short` meets its contract. Assumes nothing.
+-- `causes::short` meets its contract. Assumes nothing.
 use borrow.Author.Tests.{le-leb, lt-leb}
-use Rattle.plan.specs.Meets.{ltb-leb}
-use Rattle.plan.proofs.short.Statement.{statement}
-use Rattle.plan.proofs.short.Tie as tie
+use Rattle.causes.specs.Room.{ltb-leb}
+use Rattle.causes.proofs.short.Statement.{statement}
+use Rattle.causes.proofs.short.Tie as tie
 
 returns : tie.Need-returns
 returns c = rw (lt-leb 1948 (c .before .args .out) (c .if1 .taken))

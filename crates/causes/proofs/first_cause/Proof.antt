@@ -1,8 +1,8 @@
--- `plan::first_cause` meets its contract: each return follows the tests that led there. Assumes nothing.
+-- `causes::first_cause` meets its contract: each return follows the tests that led there. Assumes nothing.
 use borrow.Author.Tests.{lt-ltb, le-ltb, eq-eqb, ne-eqb}
 use borrow.Author.Needs.{needs}
-use Rattle.plan.proofs.first_cause.Statement.{statement}
-use Rattle.plan.proofs.first_cause.Tie as tie
+use Rattle.causes.proofs.first_cause.Statement.{statement}
+use Rattle.causes.proofs.first_cause.Tie as tie
 
 returns-2 : tie.Need-returns-2
 returns-2 c = simp (c .before .if1 .left, eq-eqb _ _ (c .if2 .taken))

@@ -1,0 +1,39 @@
+-- The first cause to refuse a commitment, as the code finds it: temporal's `cause` by the numbers that a kept record's arrays have for the event.
+use mathlib.Core.Path.{_≡_, sym, _∙_}
+use mathlib.Core.Bool.{Bool, not, cond, _||_}
+use mathlib.Core.List.{_∷_}
+use Prim.Native.Nat.{ℕ}
+use lib.Dec.{eqb, ltb}
+use Rattle.temporal.specs.Ticket.{fits}
+use Rattle.temporal.specs.Plan.{cause, asking}
+use Rattle.network.specs.Stored.{at}
+use Rattle.ticket.specs.Writing.{content, stateOf}
+use Rattle.ticket.specs.declared.Record.{Record}
+use Rattle.potentials.specs.Arrays.{windowList, in-events}
+use Rattle.causes.specs.Structs.{Kept, flag-of, open-of, close-of}
+
+-- by numbers: whether the windows are fit, n events, the event, its flag, whether the window named leaves the one that the event has
+
+abbrev pub firstCause : Bool → ℕ → ℕ → Bool → Bool → ℕ
+firstCause fit n event committed leaves =
+    cond (not fit) 15
+    (cond (eqb event 0 || ltb n event) 11
+    (cond committed 12
+    (cond leaves 13
+    0)))
+
+module _ (r : Record) (ok : Kept r) (event opens closes : ℕ) where
+  pub cause-of : cause (stateOf r) (asking event opens closes)
+      ≡ firstCause (fits (content (r .ticket)) (stateOf r .windows)) (r .ticket .events) event (eqb (at (0 ∷ r .flags) event) 1)
+      (ltb closes opens || (ltb opens (at (0 ∷ r .opens) event) || ltb (at (0 ∷ r .closes) event) closes))
+  unfolding cause
+  cause-of = rw (in-events (r .ticket), flag-of r ok event, open-of r ok event, close-of r ok event)
+
+  pub cause-told : {fit committed leaves : Bool} {first last k : ℕ}
+      → fits (content (r .ticket)) (windowList (r .ticket .events) (r .opens) (r .closes)) ≡ fit
+      → committed ≡ eqb (at (0 ∷ r .flags) event) 1 → first ≡ at (0 ∷ r .opens) event → last ≡ at (0 ∷ r .closes) event
+      → leaves ≡ (ltb closes opens || (ltb opens first || ltb last closes)) → k ≡ firstCause fit (r .ticket .events) event committed leaves → k ≡ cause (stateOf r) (asking event opens closes)
+  unfolding windowList
+  cause-told f p x y o q =
+      let l = o ∙ (λ i. ltb closes opens || (ltb opens (x i) || ltb (y i) closes)) in
+      q ∙ (λ i. firstCause (sym f i) (r .ticket .events) event (p i) (l i)) ∙ sym cause-of

@@ -1,0 +1,121 @@
+// The tests that refuse a call before its windows are sought: too little room, and the causes against a commitment; and the clearing of the scratch that ends each call.
+// Rests on `temporal` for the causes, on `runs` for room and clearing, on `ticket` and `potentials` for the record's struct and arrays, and on `fitness` for the test of its windows.
+
+ghost use mathlib.Core.Path.{_≡_};
+ghost use mathlib.Core.List.{_∷_};
+ghost use Prim.Native.Nat.{_≤_};
+ghost use mathlib.Core.Bool.{not, _&&_, _||_};
+ghost use lib.Dec.{leb, ltb, eqb};
+ghost use lib.ListN.{length};
+ghost use Rattle.temporal.specs.Plan.{cause, asking};
+ghost use Rattle.ticket.specs.Writing.{stateOf};
+ghost use Rattle.network.specs.Stored.{at};
+ghost use Rattle.runs.specs.Calls.{cleared};
+ghost use Rattle.causes.specs.Structs.{Kept};
+ghost use Rattle.causes.specs.FirstCause.{firstCause};
+
+// Whether an output or scratch of these lengths is too short.
+pub fn short(out: usize, scratch: usize) -> bool
+    ensures { λ r. ⌜ r ≡ not (leb 1948 out && leb 8192 scratch) ⌝ }
+{
+    if out < 1948 {
+        return true;
+    }
+    scratch < 8192
+}
+
+// Put 0 into the first 8,192 numbers.
+pub fn clear(scratch: &mut [u32])
+    requires { ⌜ 8192 ≤ length (now scratch) ⌝ }
+    ensures { λ _. ⌜ now (scratch .exit) ≡ cleared (now (scratch .entry)) ⌝ }
+{
+    let mut i = 0;
+    while i < 8192 {
+        scratch[i] = 0;
+        i += 1;
+    }
+}
+
+// Whether a window does not lie inside the one from first to last.
+fn outside(opens: u32, closes: u32, first: u32, last: u32) -> bool
+    ensures { λ r. ⌜ r ≡ (ltb closes opens || (ltb opens first || ltb last closes)) ⌝ }
+{
+    if closes < opens {
+        return true;
+    }
+    if opens < first {
+        return true;
+    }
+    last < closes
+}
+
+// The first cause to refuse a commitment, 0 if there is none: of n events, the event's flag, and whether the window leaves the event's.
+fn first_cause(fit: bool, n: u32, event: u32, committed: bool, leaves: bool) -> u32
+    ensures { λ r. ⌜ r ≡ firstCause fit n event committed leaves ⌝ }
+{
+    if !fit {
+        return 15;
+    }
+    if event == 0 {
+        return 11;
+    }
+    if n < event {
+        return 11;
+    }
+    if committed {
+        return 12;
+    }
+    if leaves {
+        return 13;
+    }
+    0
+}
+
+// The number that an array has for an event, 0 for point 0 and past the array.
+fn number_at(xs: &[u32; 40], event: u32) -> u32
+    requires { ⌜ length (now xs) ≡ 40 ⌝ }
+    ensures { λ r. ⌜ r ≡ at (0 ∷ now (xs .entry)) event ⌝ }
+{
+    if event == 0 {
+        return 0;
+    }
+    if 40 < event {
+        return 0;
+    }
+    xs[event as usize - 1]
+}
+
+// Whether the flag of an event is set.
+fn flag_at(flags: &[u8; 40], event: u32) -> bool
+    requires { ⌜ length (now flags) ≡ 40 ⌝ }
+    ensures { λ r. ⌜ r ≡ eqb (at (0 ∷ now (flags .entry)) event) 1 ⌝ }
+{
+    if event == 0 {
+        return false;
+    }
+    if 40 < event {
+        return false;
+    }
+    flags[event as usize - 1] == 1
+}
+
+// The first cause to refuse a commitment to the record.
+pub fn cause(r: ticket::Record, event: u32, opens: u32, closes: u32) -> u32
+    requires { ⌜ Kept r ⌝ }
+    ensures { λ k. ⌜ k ≡ cause (stateOf r) (asking event opens closes) ⌝ }
+{
+    let t = r.ticket;
+    let flags = r.flags;
+    let firsts = r.opens;
+    let lasts = r.closes;
+    let fit = fitness::fit(t, &firsts, &lasts);
+    let n = t.events as u32;
+    let committed = flag_at(&flags, event);
+    let leaves = outside(
+        opens,
+        closes,
+        number_at(&firsts, event),
+        number_at(&lasts, event),
+    );
+    first_cause(fit, n, event, committed, leaves)
+}
