@@ -6,10 +6,9 @@ ghost use lib.ListN.{length};
 ghost use lib.Seq.{sets};
 ghost use mathlib.Core.List.{[]};
 ghost use mir.Syntax.{w32};
-ghost use mir.Val.{toZ, ofZ};
+ghost use mir.Val.{ofZ};
 ghost use Rattle.ticket.specs.Writer.{bytes, each, ruleBytes, writeRule, writeTicket};
 ghost use Rattle.ticket.specs.Writing.{firsts, ownerIn, ruleIn, tests, content, testOwner, testRule, testTicket, writtenOf, outputOf, verdict};
-ghost use Rattle.writing.specs.Rules.{ruleBits};
 use ticket::TICKET_BYTES;
 use ticket::Ticket;
 use ticket::Written;
@@ -66,25 +65,6 @@ fn test_owners(t: Ticket) -> u32
     0
 }
 
-// A rule as it is written: its bound is given by its bits.
-struct RuleBits {
-    from: u8,
-    to: u8,
-    bits: u32,
-}
-
-// The rule at i of t.
-fn rule_in(t: Ticket, i: usize) -> RuleBits
-    requires { ⌜ i < 256 ⌝ }
-    ensures { λ r. ⌜ (r ≡ ruleBits (ruleIn t i)) × (toZ w32 (r .bits) ≡ ruleIn t i .bound) ⌝ }
-{
-    let from = t.from[i];
-    let to = t.to[i];
-    let c = t.bound[i];
-    let b = bits(c);
-    RuleBits { from, to, bits: b }
-}
-
 // The first cause among the rules of t, or 0.
 fn test_rules(t: Ticket) -> u32
     requires { ⌜ t .rules ≤ 256 ⌝ }
@@ -94,8 +74,10 @@ fn test_rules(t: Ticket) -> u32
     let m = t.rules;
     let mut i = 0;
     while i < m {
-        let r = rule_in(t, i);
-        let k = ticket::rule_cause(n, r.from, r.to, r.bits);
+        let from = t.from[i];
+        let to = t.to[i];
+        let bound = t.bound[i];
+        let k = ticket::rule_cause(n, from, to, bits(bound));
         if k != 0 {
             return k;
         }
@@ -136,8 +118,10 @@ fn put_rules(t: Ticket, out: &mut [u8], at: usize)
     let m = t.rules;
     let mut i = 0;
     while i < m {
-        let r = rule_in(t, i);
-        put_rule(out, at + 6 * i, r.from, r.to, r.bits);
+        let from = t.from[i];
+        let to = t.to[i];
+        let bound = t.bound[i];
+        put_rule(out, at + 6 * i, from, to, bits(bound));
         i += 1;
     }
 }

@@ -9,32 +9,10 @@ ghost use mathlib.Core.List.{[]};
 ghost use Rattle.temporal.specs.Run.{setFlags};
 ghost use Rattle.ticket.specs.Writer.{each, flagByte, windowBytes, writeWindow, writeState};
 ghost use Rattle.ticket.specs.Writing.{firsts, tests, flagIn, entryIn, stateOf, testWindow, testRecord, verdict, Storable, recordWritten, recordOutput};
-ghost use Rattle.writing_records.specs.Parts.{flagged, planBytes};
+ghost use Rattle.writing_records.specs.Parts.{planBytes};
 use ticket::RECORD_BYTES;
 use ticket::Record;
 use ticket::Written;
-
-// A window with its flag.
-struct WindowIn {
-    flag: u8,
-    opens: u32,
-    closes: u32,
-}
-
-// The window at i of r, with its flag.
-fn window_in(r: Record, i: usize) -> WindowIn
-    requires { ⌜ i < 40 ⌝ }
-    ensures { λ w. ⌜ w ≡ flagged r i ⌝ }
-{
-    let flag = r.flags[i];
-    let opens = r.opens[i];
-    let closes = r.closes[i];
-    WindowIn {
-        flag,
-        opens,
-        closes,
-    }
-}
 
 // The first cause among the windows of r, or 0.
 fn test_windows(r: Record) -> u32
@@ -45,8 +23,10 @@ fn test_windows(r: Record) -> u32
     let h = r.ticket.horizon;
     let mut i = 0;
     while i < n {
-        let w = window_in(r, i);
-        let k = ticket::window_cause(h, w.flag, w.opens, w.closes);
+        let flag = r.flags[i];
+        let opens = r.opens[i];
+        let closes = r.closes[i];
+        let k = ticket::window_cause(h, flag, opens, closes);
         if k != 0 {
             return k;
         }
@@ -115,8 +95,10 @@ fn put_windows(r: Record, out: &mut [u8], at: usize)
     let n = r.ticket.events;
     let mut i = 0;
     while i < n {
-        let w = window_in(r, i);
-        put_window(out, at + 9 * i, w.flag, w.opens, w.closes);
+        let flag = r.flags[i];
+        let opens = r.opens[i];
+        let closes = r.closes[i];
+        put_window(out, at + 9 * i, flag, opens, closes);
         i += 1;
     }
 }

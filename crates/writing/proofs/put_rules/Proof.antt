@@ -1,7 +1,7 @@
 -- `writing::put_rules` meets its contract. The invariant: the rules so far are stored from the place `at`. Assumes nothing.
+use native.Mathlib.Omega.{arith}
 use Prim.Native.Nat.{_+_, _*_, _-_, _≤_}
 use mathlib.Core.Path.{_≡_, refl, sym, ap, _∙_}
-use native.Mathlib.Omega.{arith}
 use lib.ListN.{length}
 use lib.Seq.{sets}
 use Rattle.ticket.specs.Writer.{each, writeRule}
@@ -12,11 +12,10 @@ use Rattle.writing.proofs.put_rules.Statement.{statement}
 use Rattle.writing.proofs.put_rules.Tie as tie
 
 abbrev Inv-loop : tie.InvT-loop
-Inv-loop t out₀ at m i₀ out i =
-    (i ≤ m) × (length out ≡ length out₀) × (out ≡ sets out₀ at (each writeRule (firsts i (ruleIn t))))
+Inv-loop out₀ at t m i₀ out i = (i ≤ m) × (length out ≡ length out₀) × (out ≡ sets out₀ at (each writeRule (firsts i (ruleIn t))))
 
 abbrev μ-loop : tie.MeasureT-loop
-μ-loop t out₀ at m i₀ out i = m - i
+μ-loop out₀ at t m i₀ out i = m - i
 
 loop-holds : tie.Need-loop-holds Inv-loop μ-loop
 unfolding firsts each
@@ -24,24 +23,24 @@ loop-holds c = (omega arith, refl, refl)
 
 loop-again : tie.Need-loop-again Inv-loop μ-loop
 loop-again c =
-    let a = c .before .before .before .before .before .before .before .before .args in
-    let l = c .before .before .before .before .before .before .loop in
+    let a = c .before .before .before .before .before .before .before .before .before .before .before .args in
+    let l = c .before .before .before .before .before .before .before .before .before .loop in
     let p = c .before .before .put-rule in
-    let r = c .before .before .before .before .rule-in in (
+    let r = ruleIn (a .t1) (l .i) in (
       omega arith,
       p .kept .0 ∙ l .inv .1,
       p .ensures
-          ∙ ap (sets _ (a .at + 6 * l .i)) (rule-written (ruleIn (a .t) (l .i)) (r .result) (r .ensures .0))
-          ∙ ap (λ o. sets o (a .at + 6 * l .i) (writeRule (ruleIn (a .t) (l .i)))) (l .inv .2)
-          ∙ sym (sets-rule (a .out .now) (a .at) (l .i) (ruleIn (a .t))),
+          ∙ ap (sets _ (a .at + 6 * l .i)) (rule-written r (record { sfits = c .before .before .before .before .before .bound .given }) (c .before .before .before .bits .ensures))
+          ∙ ap (λ o. sets o (a .at + 6 * l .i) (writeRule r)) (l .inv .2)
+          ∙ sym (sets-rule (a .out .now) (a .at) (l .i) (ruleIn (a .t1))),
     )
 
 returns : tie.Need-returns Inv-loop μ-loop
 returns c =
     let a = c .before .before .before .args in
     let l = c .before .loop in
-    let e : l .i ≡ a .t .rules = omega arith in
-    l .inv .2 ∙ ap (λ k. sets (a .out .now) (a .at) (each writeRule (firsts k (ruleIn (a .t))))) e
+    let e : l .i ≡ a .t1 .rules = omega arith in
+    l .inv .2 ∙ ap (λ k. sets (a .out .now) (a .at) (each writeRule (firsts k (ruleIn (a .t1))))) e
 
 pub put-rules-spec : {M : Type 1} → statement M
 put-rules-spec =
@@ -50,9 +49,13 @@ put-rules-spec =
     Inv-loop
     μ-loop
     loop-holds
+    (λ c. omega arith)
+    (λ c. omega arith)
+    (λ c. omega arith)
+    (λ c. omega arith)
+    (λ c. omega arith)
+    (λ c. omega arith)
     (λ c κs. omega arith)
-    (λ c. omega arith)
-    (λ c. omega arith)
     (λ c κs. omega arith)
     (λ c. omega arith)
     (λ c. omega arith)

@@ -1,9 +1,9 @@
 -- `writing::test_rules` meets its contract. The invariant: the tests so far are passed. Assumes nothing.
+use native.Mathlib.Omega.{arith}
+use borrow.Author.Needs.{needs}
 use Prim.Native.Nat.{_+_, _-_, _≤_}
 use mathlib.Core.Path.{_≡_, refl, sym, ap, _∙_}
 use mathlib.Core.List.{[]}
-use native.Mathlib.Omega.{arith}
-use borrow.Author.Needs.{needs}
 use Rattle.ticket.specs.Parser.{got}
 use Rattle.ticket.specs.Fields.{rule-test-fixed}
 use Rattle.ticket.specs.Writing.{ruleIn, tests, testRule, verdict}
@@ -23,16 +23,16 @@ unfolding tests
 loop-holds c = (omega arith, refl)
 
 -- The cause that was found is that of the test.
-tested : (c : tie.After-rule-cause Inv-loop μ-loop)
-    → c .rule-cause .result ≡ verdict (testRule (c .before .before .before .before .args .t) (c .before .before .before .loop .i) [])
+tested : (c : tie.After-rule-cause Inv-loop μ-loop) → c .rule-cause .result ≡ verdict (testRule (c .before .before .before .before .before .before .before .args .t1) (c .before .before .before .before .before .before .loop .i) [])
 tested c =
-    let r = c .before .rule-in in
-    rule-tested (c .before .before .before .before .args .t) (c .before .before .before .loop .i) (r .result) (c .rule-cause .result) (r .ensures .0) (r .ensures .1) (c .rule-cause .ensures)
+    let t = c .before .before .before .before .before .before .before .args .t1 in
+    let r = ruleIn t (c .before .before .before .before .before .before .loop .i) in
+    rule-tested r (record { sfits = c .before .before .bound .given }) (c .before .bits .ensures) (t .events) (c .rule-cause .result) (c .rule-cause .ensures)
 
 returns : tie.Need-returns Inv-loop μ-loop
 returns c =
-    let t = c .before .before .before .before .before .args .t in
-    let l = c .before .before .before .before .loop in
+    let t = c .before .before .before .before .before .before .before .before .args .t1 in
+    let l = c .before .before .before .before .before .before .before .loop in
     let no = verdict-refused (testRule t (l .i) []) (c .before .rule-cause .result) (tested (c .before)) (c .if1 .taken) in
     no .2
     ∙ ap verdict
@@ -40,8 +40,8 @@ returns c =
 
 loop-again : tie.Need-loop-again Inv-loop μ-loop
 loop-again c =
-    let t = c .before .before .before .before .before .args .t in
-    let l = c .before .before .before .before .loop in (
+    let t = c .before .before .before .before .before .before .before .before .args .t1 in
+    let l = c .before .before .before .before .before .before .before .loop in (
       omega arith,
       tests-more (testRule t) [] (l .i) (l .inv .1)
           ∙ verdict-passed (testRule t (l .i)) (rule-test-fixed (t .events) (ruleIn t (l .i))) [] (c .before .rule-cause .result) (tested (c .before)) (c .if1 .left),
@@ -49,7 +49,7 @@ loop-again c =
 
 returns-2 : tie.Need-returns-2 Inv-loop μ-loop
 returns-2 c =
-    let t = c .before .before .args .t in
+    let t = c .before .before .args .t1 in
     let l = c .before .loop in
     let e : t .rules ≡ l .i = omega arith in
     ap verdict (sym (ap (λ k. tests k (testRule t) []) e ∙ l .inv .1))
@@ -61,10 +61,14 @@ test-rules-spec =
     Inv-loop
     μ-loop
     loop-holds
-    (λ c κs. omega arith)
+    (λ c. search needs)
+    (λ c. search needs)
+    (λ c. search needs)
+    (λ c. search needs)
+    (λ c κs. search needs)
     (λ c κs. search needs)
     returns
-    (λ c. omega arith)
-    (λ c. omega arith)
+    (λ c. search needs)
+    (λ c. search needs)
     loop-again
     returns-2)

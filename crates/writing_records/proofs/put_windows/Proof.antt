@@ -1,7 +1,7 @@
 -- `writing_records::put_windows` meets its contract. The invariant: the windows so far are stored from the place `at`. Assumes nothing.
+use native.Mathlib.Omega.{arith}
 use Prim.Native.Nat.{_+_, _*_, _-_, _≤_}
 use mathlib.Core.Path.{_≡_, refl, sym, ap, _∙_}
-use native.Mathlib.Omega.{arith}
 use lib.ListN.{length}
 use lib.Seq.{sets}
 use Rattle.ticket.specs.Writer.{each, writeWindow}
@@ -12,10 +12,10 @@ use Rattle.writing_records.proofs.put_windows.Statement.{statement}
 use Rattle.writing_records.proofs.put_windows.Tie as tie
 
 abbrev Inv-loop : tie.InvT-loop
-Inv-loop r out₀ at n i₀ out i = (i ≤ n) × (length out ≡ length out₀) × (out ≡ sets out₀ at (each writeWindow (firsts i (entryIn r))))
+Inv-loop out₀ at r n i₀ out i = (i ≤ n) × (length out ≡ length out₀) × (out ≡ sets out₀ at (each writeWindow (firsts i (entryIn r))))
 
 abbrev μ-loop : tie.MeasureT-loop
-μ-loop r out₀ at n i₀ out i = n - i
+μ-loop out₀ at r n i₀ out i = n - i
 
 loop-holds : tie.Need-loop-holds Inv-loop μ-loop
 unfolding firsts each
@@ -23,24 +23,23 @@ loop-holds c = (omega arith, refl, refl)
 
 loop-again : tie.Need-loop-again Inv-loop μ-loop
 loop-again c =
-    let a = c .before .before .before .before .before .before .before .before .args in
-    let l = c .before .before .before .before .before .before .loop in
-    let p = c .before .before .put-window in
-    let w = c .before .before .before .before .window-in in (
+    let a = c .before .before .before .before .before .before .before .before .before .before .args in
+    let l = c .before .before .before .before .before .before .before .before .loop in
+    let p = c .before .before .put-window in (
       omega arith,
       p .kept .0 ∙ l .inv .1,
       p .ensures
-          ∙ ap (sets _ (a .at + 9 * l .i)) (window-written (a .r) (l .i) (w .result) (c .before .before .before .before .before .before .before .before .pre .1 (l .i) (omega arith)) (w .ensures))
-          ∙ ap (λ o. sets o (a .at + 9 * l .i) (writeWindow (entryIn (a .r) (l .i)))) (l .inv .2)
-          ∙ sym (sets-window (a .out .now) (a .at) (l .i) (entryIn (a .r))),
+          ∙ ap (sets _ (a .at + 9 * l .i)) (window-written (a .t1) (l .i) (c .before .before .before .before .before .before .before .before .before .before .pre .1 (l .i) (omega arith)))
+          ∙ ap (λ o. sets o (a .at + 9 * l .i) (writeWindow (entryIn (a .t1) (l .i)))) (l .inv .2)
+          ∙ sym (sets-window (a .out .now) (a .at) (l .i) (entryIn (a .t1))),
     )
 
 returns : tie.Need-returns Inv-loop μ-loop
 returns c =
     let a = c .before .before .before .args in
     let l = c .before .loop in
-    let e : l .i ≡ a .r .ticket .events = omega arith in
-    l .inv .2 ∙ ap (λ k. sets (a .out .now) (a .at) (each writeWindow (firsts k (entryIn (a .r))))) e
+    let e : l .i ≡ a .t1 .ticket .events = omega arith in
+    l .inv .2 ∙ ap (λ k. sets (a .out .now) (a .at) (each writeWindow (firsts k (entryIn (a .t1))))) e
 
 pub put-windows-spec : {M : Type 1} → statement M
 put-windows-spec =
@@ -49,7 +48,11 @@ put-windows-spec =
     Inv-loop
     μ-loop
     loop-holds
-    (λ c κs. omega arith)
+    (λ c. omega arith)
+    (λ c. omega arith)
+    (λ c. omega arith)
+    (λ c. omega arith)
+    (λ c. omega arith)
     (λ c. omega arith)
     (λ c. omega arith)
     (λ c κs. omega arith)

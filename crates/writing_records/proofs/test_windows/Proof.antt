@@ -1,9 +1,9 @@
 -- `writing_records::test_windows` meets its contract. The invariant: the tests so far are passed. Assumes nothing.
+use native.Mathlib.Omega.{arith}
+use borrow.Author.Needs.{needs}
 use Prim.Native.Nat.{_+_, _-_, _≤_}
 use mathlib.Core.Path.{_≡_, refl, sym, ap, _∙_}
 use mathlib.Core.List.{[]}
-use native.Mathlib.Omega.{arith}
-use borrow.Author.Needs.{needs}
 use Rattle.ticket.specs.Parser.{got}
 use Rattle.ticket.specs.Writing.{tests, verdict, testWindow}
 use Rattle.writing_records.specs.Parts.{window-tested}
@@ -22,16 +22,13 @@ unfolding tests
 loop-holds c = (omega arith, refl)
 
 -- The cause that was found is that of the test.
-tested : (c : tie.After-window-cause Inv-loop μ-loop)
-    → c .window-cause .result ≡ verdict (testWindow (c .before .before .before .before .args .r) (c .before .before .before .loop .i) [])
-tested c =
-    let w = c .before .window-in in
-    window-tested (c .before .before .before .before .args .r) (c .before .before .before .loop .i) (w .result) (c .window-cause .result) (w .ensures) (c .window-cause .ensures)
+tested : (c : tie.After-window-cause Inv-loop μ-loop) → c .window-cause .result ≡ verdict (testWindow (c .before .before .before .before .before .before .args .t1) (c .before .before .before .before .before .loop .i) [])
+tested c = window-tested (c .before .before .before .before .before .before .args .t1) (c .before .before .before .before .before .loop .i) (c .window-cause .result) (c .window-cause .ensures)
 
 returns : tie.Need-returns Inv-loop μ-loop
 returns c =
-    let r = c .before .before .before .before .before .args .r in
-    let l = c .before .before .before .before .loop in
+    let r = c .before .before .before .before .before .before .before .args .t1 in
+    let l = c .before .before .before .before .before .before .loop in
     let no = verdict-refused (testWindow r (l .i) []) (c .before .window-cause .result) (tested (c .before)) (c .if1 .taken) in
     no .2
     ∙ ap verdict
@@ -39,8 +36,8 @@ returns c =
 
 loop-again : tie.Need-loop-again Inv-loop μ-loop
 loop-again c =
-    let r = c .before .before .before .before .before .args .r in
-    let l = c .before .before .before .before .loop in (
+    let r = c .before .before .before .before .before .before .before .args .t1 in
+    let l = c .before .before .before .before .before .before .loop in (
       omega arith,
       tests-more (testWindow r) [] (l .i) (l .inv .1)
           ∙ verdict-passed (testWindow r (l .i)) (window-test-fixed r (l .i)) [] (c .before .window-cause .result) (tested (c .before)) (c .if1 .left),
@@ -48,7 +45,7 @@ loop-again c =
 
 returns-2 : tie.Need-returns-2 Inv-loop μ-loop
 returns-2 c =
-    let r = c .before .before .args .r in
+    let r = c .before .before .args .t1 in
     let l = c .before .loop in
     let e : r .ticket .events ≡ l .i = omega arith in
     ap verdict (sym (ap (λ k. tests k (testWindow r) []) e ∙ l .inv .1))
@@ -60,10 +57,14 @@ test-windows-spec =
     Inv-loop
     μ-loop
     loop-holds
-    (λ c κs. omega arith)
+    (λ c. search needs)
+    (λ c. search needs)
+    (λ c. search needs)
+    (λ c. search needs)
+    (λ c. search needs)
     (λ c κs. search needs)
     returns
-    (λ c. omega arith)
-    (λ c. omega arith)
+    (λ c. search needs)
+    (λ c. search needs)
     loop-again
     returns-2)
