@@ -1,14 +1,17 @@
 // The two functions that a host program in C calls: planning and commitment on numbers and byte slices.
-// Each holds the scratch that crate `plan` is lent, so that number 10 says that the output is too short.
+// Each holds the scratch that crate `plan` works in, so that number 10 says that the output is too short. Nobody sees it, so it is not cleared.
 ghost use mathlib.Core.Path.{_≡_};
-ghost use lib.ListN.{replicate};
+ghost use lib.ListN.{length, replicate};
 ghost use Rattle.runs.specs.Calls.{planning, committing};
 
-// The scratch of a call; as a call's result it is no list of 8,192 literals in the proofs.
-fn scratch() -> [u32; 8192]
-    ensures { λ r. ⌜ r ≡ replicate 8192 0 ⌝ }
+// The least output.
+const RECORD_BYTES: usize = 1948;
+
+// The scratch of a call; as a call's result it is no list of 1,824 literals in the proofs.
+fn scratch() -> [u32; 1824]
+    ensures { λ r. ⌜ length r ≡ 1824 ⌝ }
 {
-    [0u32; 8192]
+    [0u32; 1824]
 }
 
 // The record of the plan of a ticket, at the start of `out`. The answer is 0, or the number of the first cause to refuse.
@@ -17,8 +20,11 @@ pub extern "C" fn beyunlak_plan(ticket: &[u8], out: &mut [u8]) -> u32
     ensures { λ r. ⌜ r ≡ planning (now (ticket .entry)) (now (out .entry)) (replicate 8192 0) .number ⌝ }
     ensures { λ _. ⌜ now (out .exit) ≡ planning (now (ticket .entry)) (now (out .entry)) (replicate 8192 0) .out ⌝ }
 {
+    if out.len() < RECORD_BYTES {
+        return 10;
+    }
     let mut lent = scratch();
-    let planned = plan::plan(ticket, out, &mut lent);
+    let planned = plan::plan_bytes(ticket, out, &mut lent);
     planned.number
 }
 
@@ -34,7 +40,10 @@ pub extern "C" fn beyunlak_commit(
     ensures { λ r. ⌜ r ≡ committing (now («record» .entry)) event «open» close (now (out .entry)) (replicate 8192 0) .number ⌝ }
     ensures { λ _. ⌜ now (out .exit) ≡ committing (now («record» .entry)) event «open» close (now (out .entry)) (replicate 8192 0) .out ⌝ }
 {
+    if out.len() < RECORD_BYTES {
+        return 10;
+    }
     let mut lent = scratch();
-    let committed = plan::commit(record, event, open, close, out, &mut lent);
+    let committed = plan::commit_bytes(record, event, open, close, out, &mut lent);
     committed.number
 }

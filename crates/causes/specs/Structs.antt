@@ -1,14 +1,14 @@
--- A record that the code hands on is Kept: it is the struct of the readable state that it says, with zeros past its counts.
+-- A record that the code hands on is Kept: what it says is readable, with zeros past its events in the arrays of windows and flags.
 -- What a struct says is `ticket`'s `content` and `stateOf`; of its arrays alone `potentials` says it.
 use mathlib.Core.Path.{_≡_, refl, sym, ap, subst, _∙_}
 use mathlib.Core.Bool.{Bool, true, false}
-use mathlib.Core.List.{List, [], _∷_, map, _++_}
+use mathlib.Core.List.{List, _∷_, map, _++_}
 use Prim.Native.Nat.{ℕ, zero, suc, _-_, _≤_, _<_}
 use native.Mathlib.Omega.{arith}
 use lib.Dec.{eqb}
 use mathlib.Core.Logic.{_⊎_, inl, inr}
 use lib.ListN.{length, getD, set, replicate, length-append, length-replicate, length-map, length-set}
-use lib.Seq.{ext-getD, getD-append-add, getD-set-other}
+use lib.Seq.{getD-append-add, getD-set-other}
 use Rattle.temporal.specs.Lists.{below-or-not, by-points, getD-past}
 use Rattle.temporal.specs.Ticket as temporal
 use Rattle.temporal.specs.Ticket.{Window, events, origin}
@@ -16,13 +16,12 @@ use Rattle.temporal.specs.Plan.{State, flagged}
 use Rattle.temporal.specs.Run.{Valid, Readable}
 use Rattle.network.specs.Stored.{at}
 use Rattle.network.specs.Lists.{zeros-at}
-use Rattle.ticket.specs.Parser.{got}
 use Rattle.ticket.specs.RoundTrip.{flags-small}
-use Rattle.ticket.specs.Agree.{field-at, content-stored, state-stored, readable-written}
-use Rattle.ticket.specs.Writing.{content, stateOf, over, told, left, writingRecord, recordWritten, recordOutput}
-use Rattle.ticket.specs.Stored.{pad, stored, storedState}
-use Rattle.ticket.specs.Writer.{flagByte, writeState}
-use Rattle.potentials.specs.Arrays.{windowList, flagList, window-at, flag-at, in-events, Lie, Within}
+use Rattle.ticket.specs.Agree.{field-at, state-stored}
+use Rattle.ticket.specs.Writing.{content, stateOf, Storable}
+use Rattle.ticket.specs.Stored.{pad, storedState}
+use Rattle.ticket.specs.Writer.{flagByte}
+use Rattle.potentials.specs.Arrays.{windowList, flagList, window-at, flag-at, in-events, in-rules, Lie, Within}
 use Rattle.ticket.specs.declared.Record.{Record}
 
 -- ---- an array of 40 numbers, 0 past the first n
@@ -47,10 +46,7 @@ past-point : {n : ℕ} {xs : List ℕ} → Past n xs → (q : ℕ) → n < q →
 past-point p zero l = refl
 past-point p (suc j) l = p .zero-past j (omega arith)
 
-module _ {A : Type 0} (f : A → ℕ) (d : A) (z : f d ≡ 0) (xs : List A) (few : length xs ≤ 40) where
-  pad-at : (i : ℕ) → i < length xs → at (pad 0 40 (map f xs)) i ≡ f (getD xs i d)
-  pad-at i l = rw z at (field-at f d 40 xs i l)
-
+module _ {A : Type 0} (f : A → ℕ) (xs : List A) (few : length xs ≤ 40) where
   pub pad-past : Past (length xs) (pad 0 40 (map f xs))
   unfolding pad
   pad-past = record {
@@ -61,15 +57,6 @@ module _ {A : Type 0} (f : A → ℕ) (d : A) (z : f d ≡ 0) (xs : List A) (few
         ∙ zeros-at (40 - length (map f xs)) (i - length (map f xs));
   }
 
-  -- an array with the numbers of a list, and zeros after them
-  pub past-pad : (ys : List ℕ) → Past (length xs) ys → ((i : ℕ) → i < length xs → at ys i ≡ f (getD xs i d)) → ys ≡ pad 0 40 (map f xs)
-  past-pad ys p h =
-      ext-getD 0 ys (pad 0 40 (map f xs)) (p .long ∙ sym (pad-past .long)) (λ i l. by i (below-or-not i (length xs)))
-    where
-      by : (i : ℕ) → (i < length xs) ⊎ (length xs ≤ i) → at ys i ≡ at (pad 0 40 (map f xs)) i
-      by i (inl l) = h i l ∙ sym (pad-at i l)
-      by i (inr l) = p .zero-past i l ∙ sym (pad-past .zero-past i l)
-
 module _ (s : State) (ok : Readable s) where
   few : length (s .windows) ≤ 40
   few = omega (arith, ok .windows-count, ok .valid .events-limit)
@@ -77,10 +64,9 @@ module _ (s : State) (ok : Readable s) where
   pub state-of : stateOf (storedState s) ≡ s
   state-of = state-stored s (ok .windows-count) (ok .flags-count)
 
--- ---- a record that the code hands on: the struct of a readable state
+-- ---- a record that the code hands on
 
 pub record Kept (r : Record) : Type 0 where
-  pub ticket-is : r .ticket ≡ stored (content (r .ticket))
   pub flags-past : Past (r .ticket .events) (r .flags)
   pub opens-past : Past (r .ticket .events) (r .opens)
   pub closes-past : Past (r .ticket .events) (r .closes)
@@ -89,10 +75,9 @@ pub record Kept (r : Record) : Type 0 where
 
 pub kept-read : (s : State) → Readable s → Kept (storedState s)
 kept-read s ok = record {
-  ticket-is = ap stored (sym (content-stored (s .ticket)));
-  flags-past = subst (λ n. Past n (storedState s .flags)) (ok .flags-count) (pad-past flagByte false refl (s .flags) (omega (arith, ok .flags-count, ok .valid .events-limit)));
-  opens-past = subst (λ n. Past n (storedState s .opens)) (ok .windows-count) (pad-past (λ (w : Window). w .opens) origin refl (s .windows) (few s ok));
-  closes-past = subst (λ n. Past n (storedState s .closes)) (ok .windows-count) (pad-past (λ (w : Window). w .closes) origin refl (s .windows) (few s ok));
+  flags-past = subst (λ n. Past n (storedState s .flags)) (ok .flags-count) (pad-past flagByte (s .flags) (omega (arith, ok .flags-count, ok .valid .events-limit)));
+  opens-past = subst (λ n. Past n (storedState s .opens)) (ok .windows-count) (pad-past (λ (w : Window). w .opens) (s .windows) (few s ok));
+  closes-past = subst (λ n. Past n (storedState s .closes)) (ok .windows-count) (pad-past (λ (w : Window). w .closes) (s .windows) (few s ok));
   bits = λ i. by i (below-or-not i (length (s .flags)));
   readable = subst Readable (sym (state-of s ok)) ok;
 }
@@ -103,7 +88,7 @@ kept-read s ok = record {
 
     by : (i : ℕ) → (i < length (s .flags)) ⊎ (length (s .flags) ≤ i) → at (storedState s .flags) i ≤ 1
     by i (inl l) = omega (arith, field-at flagByte false 40 (s .flags) i l, flag-byte (getD (s .flags) i false))
-    by i (inr l) = omega (arith, pad-past flagByte false refl (s .flags) (omega (arith, ok .flags-count, ok .valid .events-limit)) .zero-past i l)
+    by i (inr l) = omega (arith, pad-past flagByte (s .flags) (omega (arith, ok .flags-count, ok .valid .events-limit)) .zero-past i l)
 
 module _ (r : Record) (ok : Kept r) where
   counted : events (content (r .ticket)) ≡ r .ticket .events
@@ -138,36 +123,13 @@ module _ (r : Record) (ok : Kept r) where
   unfolding windowList
   kept-lies = ok .readable .windows-lie
 
-  pub kept-stored : r ≡ storedState (stateOf r)
-  unfolding windowList flagList
-  kept-stored = λ t. record {
-    ticket = ok .ticket-is t;
-    flags = past-pad flagByte false refl (stateOf r .flags) (omega (arith, kept-few, counted, ok .readable .flags-count)) (r .flags)
-        (subst (λ m. Past m (r .flags)) (sym (ok .readable .flags-count ∙ counted)) (ok .flags-past))
-        (λ i l. let li : i < r .ticket .events = omega (arith, counted, ok .readable .flags-count) in
-        flag-back (at (r .flags) i) (ok .bits i) ∙ ap flagByte (sym (flag-at (r .ticket .events) (r .flags) i li))) t;
-    opens = past-pad (λ (w : Window). w .opens) origin refl (stateOf r .windows) (omega (arith, kept-few, counted, ok .readable .windows-count)) (r .opens)
-        (subst (λ m. Past m (r .opens)) (sym (ok .readable .windows-count ∙ counted)) (ok .opens-past))
-        (λ i l. let li : i < r .ticket .events = omega (arith, counted, ok .readable .windows-count) in
-        sym (ap (λ (w : Window). w .opens) (window-at (r .ticket .events) (r .opens) (r .closes) i li))) t;
-    closes = past-pad (λ (w : Window). w .closes) origin refl (stateOf r .windows) (omega (arith, kept-few, counted, ok .readable .windows-count)) (r .closes)
-        (subst (λ m. Past m (r .closes)) (sym (ok .readable .windows-count ∙ counted)) (ok .closes-past))
-        (λ i l. let li : i < r .ticket .events = omega (arith, counted, ok .readable .windows-count) in
-        sym (ap (λ (w : Window). w .closes) (window-at (r .ticket .events) (r .opens) (r .closes) i li))) t;
-    number = r .number;
+  -- it can be written with no test
+  pub kept-storable : Storable r
+  kept-storable = record {
+    events-limit = kept-few;
+    rules-limit = omega (arith, in-rules (r .ticket), ok .readable .valid .rules-limit);
+    flags-known = λ i l. ok .bits i;
   }
-    where
-      flag-back : (x : ℕ) → x ≤ 1 → x ≡ flagByte (eqb x 1)
-      flag-back zero l = refl
-      flag-back (suc zero) l = refl
-      flag-back (suc (suc x)) l = absurd (omega arith)
-
-  -- what writing it answers and leaves in the output
-  pub kept-written : (out : List ℕ) → 1948 ≤ length out
-      → (recordWritten out r .length ≡ length (writeState (stateOf r))) × (recordOutput out r ≡ over (writeState (stateOf r)) out)
-  kept-written out l =
-      let e : writingRecord out r [] ≡ got (writeState (stateOf r)) [] = ap (λ q. writingRecord out q []) kept-stored ∙ readable-written out (stateOf r) (ok .readable) l in
-      (ap (λ o. told o .length) e, ap (left out) e)
 
 -- ---- windows, to be tested and summed
 

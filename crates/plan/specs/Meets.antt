@@ -1,12 +1,12 @@
 -- What the code's inner functions leave, as far as it is settled before the scratch is cleared: the answer, the output, and the scratch past its first 8,192 numbers.
--- The laws follow the code: a refusal, an accepted call, a reading, and the two doors.
+-- The laws follow the code: a refusal, an accepted call, a reading, the two doors, and the same calls with scratch of their own.
 use mathlib.Core.Path.{_≡_, refl, sym, ap, subst, _∙_}
 use mathlib.Core.List.{List}
-use Prim.Native.Nat.{ℕ}
+use Prim.Native.Nat.{ℕ, _≤_, _<_}
 use lib.ListN.{length}
 use Rattle.temporal.specs.Ticket as temporal
 use Rattle.temporal.specs.Ticket.{total}
-use Rattle.temporal.specs.Plan.{State, Answer as Decision, accepted, refused, plan}
+use Rattle.temporal.specs.Plan.{State, Answer as Decision, accepted, refused, plan, commit, asking}
 use Rattle.temporal.specs.Run.{Valid, Readable}
 use Rattle.ticket.specs.Parser.{Cause, Out, got, number, wholly}
 use Rattle.ticket.specs.Parser as parser
@@ -19,7 +19,7 @@ use Rattle.ticket.specs.Laws.{was-refused, was-got}
 use Rattle.ticket.specs.declared.ReadTicket.{ReadTicket}
 use Rattle.ticket.specs.declared.ReadRecord.{ReadRecord}
 use Rattle.causes.specs.Zeroed.{past, zeroed-rest}
-use Rattle.runs.specs.Calls.{Outcome, zeroed, cleared, withoutRoom, answered, afterReading}
+use Rattle.runs.specs.Calls.{Outcome, zeroed, cleared, withoutRoom, answered, afterReading, planning, committing, enough-room, no-room-out, planning-short, planning-read, committing-short, committing-read}
 use Rattle.ticket.specs.Agree.{content-stored}
 use Rattle.causes.specs.Structs.{state-of, Kept, kept-read}
 use Rattle.plan.specs.Returned.{returned}
@@ -81,8 +81,8 @@ module _ (ticket : List ℕ) {x : ReadTicket} (e : x ≡ wholeTicket ticket) whe
     holds : content (x .ticket) ≡ read .0
     holds = ap content struct ∙ content-stored (read .0)
 
-    pub ticket-read : Bytes ticket → (x .ticket ≡ stored (content (x .ticket))) × Valid (content (x .ticket))
-    ticket-read b = (struct ∙ ap stored (sym holds), subst Valid (sym holds) (written-read ticket (read .0) (read .1) b (read .2) .1))
+    pub ticket-read : Bytes ticket → Valid (content (x .ticket))
+    ticket-read b = subst Valid (sym holds) (written-read ticket (read .0) (read .1) b (read .2) .1)
 
     pub ticket-meets : (out : List ℕ) {scratch : List ℕ} {a : Answer} {out′ scratch′ : List ℕ} → Meets (answered out scratch (plan (content (x .ticket)))) scratch a out′ scratch′
         → Meets (afterReading out scratch plan (wholly readTicket ticket)) scratch a out′ scratch′
@@ -140,3 +140,46 @@ whole-read out scratch decide o {scratch′ = scratch′} e m c = (
     c ∙ zeroed-rest 8192 scratch′ scratch (m .rest-is) ∙ sym (reading-clears out scratch decide o) ∙ ap (λ (x : Outcome). x .scratch) (sym e),
   ),
 )
+
+-- ---- a call with scratch of its own: what is answered and written does not depend on the scratch
+
+same-decided : (out s z : List ℕ) (d : Decision) → (answered out s d .number ≡ answered out z d .number) × (answered out s d .out ≡ answered out z d .out)
+same-decided out s z (Decision.refused r) = (refl, refl)
+same-decided out s z (Decision.accepted x) = (refl, refl)
+
+same-read : {A : Type 0} (out s z : List ℕ) (decide : A → Decision) (o : Out A)
+    → (afterReading out s decide o .number ≡ afterReading out z decide o .number) × (afterReading out s decide o .out ≡ afterReading out z decide o .out)
+same-read out s z decide (Out.got x rest) = same-decided out s z (decide x)
+same-read out s z decide (Out.refused k) = (refl, refl)
+
+-- the number and the output, as of scratch z
+abbrev pub Told : Outcome → ℕ → List ℕ → Type 0
+Told o number out = (number ≡ o .number) × (out ≡ o .out)
+
+told-read : {A : Type 0} (out s z : List ℕ) (decide : A → Decision) (o : Out A) {whole : Outcome} {a : Answer} {out′ s′ : List ℕ}
+    → whole ≡ afterReading out z decide o → Meets (afterReading out s decide o) s a out′ s′ → Told whole (a .number) out′
+told-read out s z decide o e m = (
+  ap (λ (x : Answer). x .number) (m .answer-is) ∙ same-read out s z decide o .0 ∙ ap (λ (x : Outcome). x .number) (sym e),
+  m .output-is ∙ same-read out s z decide o .1 ∙ ap (λ (x : Outcome). x .out) (sym e),
+)
+
+told-short : (out z : List ℕ) {whole : Outcome} → whole ≡ withoutRoom out z → Told whole 10 out
+told-short out z e = (ap (λ (x : Outcome). x .number) (sym e), ap (λ (x : Outcome). x .out) (sym e))
+
+module _ (out z : List ℕ) where
+  pub planned-short : (ticket : List ℕ) → length out < 1948 → Told (planning ticket out z) 10 out
+  planned-short ticket l = told-short out z (planning-short ticket out z (no-room-out out z l))
+
+  pub committed-short : (bytes : List ℕ) (event opens closes : ℕ) → length out < 1948 → Told (committing bytes event opens closes out z) 10 out
+  committed-short bytes event opens closes l = told-short out z (committing-short bytes event opens closes out z (no-room-out out z l))
+
+  module _ (l : 1948 ≤ length out) (m : 8192 ≤ length z) {s : List ℕ} {a : Answer} {out′ s′ : List ℕ} where
+    pub planned-told : (ticket : List ℕ) → Meets (afterReading out s plan (wholly readTicket ticket)) s a out′ s′ → Told (planning ticket out z) (a .number) out′
+    planned-told ticket h = told-read out s z plan (wholly readTicket ticket) (planning-read ticket out z (enough-room out z l m)) h
+
+    pub committed-told : (bytes : List ℕ) (event opens closes : ℕ)
+        → Meets (afterReading out s (λ (x : State). commit x (asking event opens closes)) (wholly readState bytes)) s a out′ s′
+        → Told (committing bytes event opens closes out z) (a .number) out′
+    committed-told bytes event opens closes h =
+        told-read out s z (λ (x : State). commit x (asking event opens closes)) (wholly readState bytes)
+        (committing-read bytes event opens closes out z (enough-room out z l m)) h

@@ -9,24 +9,20 @@ use native.Mathlib.Decide.{ℕ-discrete}
 use borrow.Author.Tests.{ne-eqb}
 use lib.ListN.{length, set, replicate}
 use lib.Seq.{getD-set-same, getD-set-other}
-use Rattle.temporal.specs.Ticket.{Ticket, total}
+use Rattle.temporal.specs.Ticket.{Ticket}
 use Rattle.temporal.specs.Plan.{State, Commitment, accepted, refused, plan, cause, commit, asking}
 use Rattle.temporal.specs.Run.{Valid, Readable, Event}
 use Rattle.temporal.specs.Run as states
 use Rattle.temporal.specs.Causes.{acceptable}
 use Rattle.temporal.specs.RunHolds as states-hold
 use Rattle.network.specs.Stored.{at}
-use Rattle.ticket.specs.Stored.{stored}
-use Rattle.ticket.specs.Writer.{writeState}
-use Rattle.ticket.specs.Writing.{content, stateOf, over, recordWritten, recordOutput}
-use Rattle.ticket.specs.declared.Written.{Written}
+use Rattle.ticket.specs.Writing.{content, stateOf}
 use Rattle.ticket.specs.declared.Ticket.{Ticket as Struct}
 use Rattle.ticket.specs.declared.Record.{Record}
-use Rattle.potentials.specs.Arrays.{windowList, in-events, in-rules, Within}
+use Rattle.potentials.specs.Arrays.{in-events, in-rules, Within}
 use Rattle.windows.specs.Promises.{stateIn, Room, Planned, Committed}
 use Rattle.windows.specs.Settle.{Asked}
-use Rattle.causes.specs.Structs.{Past, zeros-past, within-past, set-past, Kept, kept-few, kept-written}
-use Rattle.plan.specs.declared.Answer.{Answer}
+use Rattle.causes.specs.Structs.{Past, zeros-past, within-past, set-past, Kept, kept-few}
 
 -- ---- what an accepted call leaves is readable
 
@@ -74,7 +70,6 @@ module _ (r : Record) (ok : Kept r) (event opens closes : ℕ) where
       × (commit (stateOf r) (asking event opens closes) ≡ accepted (stateIn (r .ticket) flags′ opens′ closes′ (r .number + 1)))
   kept-committed {flags′} {opens′} {closes′} z C = (
     record {
-      ticket-is = ok .ticket-is;
       flags-past = subst (Past (r .ticket .events)) (sym (C .flags-are)) (set-past (event - 1) 1 inside (ok .flags-past));
       opens-past = within-past (ok .opens-past) (C .opens-past);
       closes-past = within-past (ok .closes-past) (C .closes-past);
@@ -110,10 +105,9 @@ module _ {t : Struct} where
     pub planned-some : b ≡ true → plan (content t) ≡ accepted (stateIn t (replicate 40 0) opens′ closes′ 0)
     planned-some q = P .answer ∙ ap (λ x. cond x (accepted (stateIn t (replicate 40 0) opens′ closes′ 0)) (refused 9)) q
 
-    pub kept-planned : t ≡ stored (content t) → Valid (content t) → opens ≡ replicate 40 0 → closes ≡ replicate 40 0 → b ≡ true
+    pub kept-planned : Valid (content t) → opens ≡ replicate 40 0 → closes ≡ replicate 40 0 → b ≡ true
         → Kept (record { ticket = t; flags = replicate 40 0; opens = opens′; closes = closes′; number = 0 })
-    kept-planned is v zo zc q = record {
-      ticket-is = is;
+    kept-planned v zo zc q = record {
       flags-past = zeros-past (t .events);
       opens-past = grown opens′ zo (P .opens-past);
       closes-past = grown closes′ zc (P .closes-past);
@@ -129,16 +123,3 @@ module _ {t : Struct} where
 pub commit-refused : (s : State) (c : Commitment) {k : ℕ} → k ≡ cause s c → (k ≡ 0 → ⊥) → commit s c ≡ refused k
 unfolding commit
 commit-refused s c {k} e n = rw (← e, ne-eqb k 0 n)
-
--- ---- the record written
-
-pub written-out : (out : List ℕ) {r : Record} {w : Written} {x : ℕ} {out′ : List ℕ} → Kept r → 1948 ≤ length out
-    → x ≡ total (content (r .ticket)) (windowList (r .ticket .events) (r .opens) (r .closes)) → w ≡ recordWritten out r → out′ ≡ recordOutput out r
-    → _≡_ {A = Answer} (record { number = 0; length = w .length; total = x })
-    (record { number = 0; length = length (writeState (stateOf r)); total = total (stateOf r .ticket) (stateOf r .windows) })
-    × (out′ ≡ over (writeState (stateOf r)) out)
-unfolding windowList
-written-out out {r} ok l q p h =
-    let k = kept-written r ok out l in
-    let n = ap (λ (y : Written). y .length) p ∙ k .0 in
-    (λ i. record { number = 0; length = n i; total = q i }, h ∙ k .1)

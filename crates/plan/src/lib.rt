@@ -12,7 +12,6 @@ ghost use Rattle.ticket.specs.Parser.{wholly};
 ghost use Rattle.ticket.specs.Format.{readTicket, readState};
 ghost use Rattle.ticket.specs.Writer.{writeState};
 ghost use Rattle.ticket.specs.Writing.{content, stateOf, over};
-ghost use Rattle.ticket.specs.Stored.{stored};
 ghost use Rattle.causes.specs.Zeroed.{past};
 ghost use Rattle.runs.specs.Calls.{answered, afterReading, planning, committing};
 ghost use Rattle.plan.specs.Returned.{returned};
@@ -50,18 +49,18 @@ fn write_out(r: ticket::Record, out: &mut [u8]) -> Answer
     let opens = r.opens;
     let closes = r.closes;
     let total = fitness::total(t, &opens, &closes);
-    let written = writing_records::write_record(r, out);
+    let length = writing_records::put_record(r, out);
     Answer {
         number: 0,
-        length: written.length,
+        length,
         total,
     }
 }
 
 // Plan a ticket that was read.
 fn plan_ticket(t: ticket::Ticket, out: &mut [u8], scratch: &mut [u32]) -> Answer
-    requires { ⌜ (t ≡ stored (content t)) × Valid (content t) ⌝ }
-    requires { ⌜ (1948 ≤ length (now out)) × (8192 ≤ length (now scratch)) ⌝ }
+    requires { ⌜ Valid (content t) ⌝ }
+    requires { ⌜ (1948 ≤ length (now out)) × (1824 ≤ length (now scratch)) ⌝ }
     ensures { λ a. ⌜ Meets (answered (now (out .entry)) (now (scratch .entry)) (plan (content t))) (now (scratch .entry)) a (now (out .exit)) (now (scratch .exit)) ⌝ }
 {
     let flags = [0u8; 40];
@@ -81,9 +80,9 @@ fn plan_ticket(t: ticket::Ticket, out: &mut [u8], scratch: &mut [u32]) -> Answer
     write_out(r, out)
 }
 
-// Plan the ticket that the bytes hold.
-fn plan_bytes(ticket: &[u8], out: &mut [u8], scratch: &mut [u32]) -> Answer
-    requires { ⌜ (1948 ≤ length (now out)) × (8192 ≤ length (now scratch)) ⌝ }
+// Plan the ticket that the bytes hold, where there is room. Of the scratch the first 1,824 numbers are used, and not cleared.
+pub fn plan_bytes(ticket: &[u8], out: &mut [u8], scratch: &mut [u32]) -> Answer
+    requires { ⌜ (1948 ≤ length (now out)) × (1824 ≤ length (now scratch)) ⌝ }
     ensures { λ a. ⌜ Meets (afterReading (now (out .entry)) (now (scratch .entry)) plan (wholly readTicket (now (ticket .entry)))) (now (scratch .entry)) a (now (out .exit)) (now (scratch .exit)) ⌝ }
 {
     let read = reading::read_ticket(ticket);
@@ -117,7 +116,7 @@ fn commit_event(
     scratch: &mut [u32],
 ) -> ticket::Record
     requires { ⌜ Kept r × (cause (stateOf r) (asking event opens closes) ≡ 0) ⌝ }
-    requires { ⌜ 8192 ≤ length (now scratch) ⌝ }
+    requires { ⌜ 1824 ≤ length (now scratch) ⌝ }
     ensures { λ q. ⌜ Kept q × (commit (stateOf r) (asking event opens closes) ≡ accepted (stateOf q)) ⌝ }
     ensures { λ q. ⌜ past 8192 (now (scratch .exit)) ≡ past 8192 (now (scratch .entry)) ⌝ }
 {
@@ -153,7 +152,7 @@ fn commit_record(
     out: &mut [u8],
     scratch: &mut [u32],
 ) -> Answer
-    requires { ⌜ Kept r × (1948 ≤ length (now out)) × (8192 ≤ length (now scratch)) ⌝ }
+    requires { ⌜ Kept r × (1948 ≤ length (now out)) × (1824 ≤ length (now scratch)) ⌝ }
     ensures { λ a. ⌜ Meets (answered (now (out .entry)) (now (scratch .entry)) (commit (stateOf r) (asking event opens closes))) (now (scratch .entry)) a (now (out .exit)) (now (scratch .exit)) ⌝ }
 {
     let refused = causes::cause(r, event, opens, closes);
@@ -164,8 +163,8 @@ fn commit_record(
     write_out(next, out)
 }
 
-// Commit to the record that the bytes hold.
-fn commit_bytes(
+// Commit to the record that the bytes hold, where there is room. Of the scratch the first 1,824 numbers are used, and not cleared.
+pub fn commit_bytes(
     record: &[u8],
     event: u32,
     opens: u32,
@@ -173,7 +172,7 @@ fn commit_bytes(
     out: &mut [u8],
     scratch: &mut [u32],
 ) -> Answer
-    requires { ⌜ (1948 ≤ length (now out)) × (8192 ≤ length (now scratch)) ⌝ }
+    requires { ⌜ (1948 ≤ length (now out)) × (1824 ≤ length (now scratch)) ⌝ }
     ensures { λ a. ⌜ Meets (afterReading (now (out .entry)) (now (scratch .entry)) (λ (s : State). commit s (asking event opens closes)) (wholly readState (now («record» .entry)))) (now (scratch .entry)) a (now (out .exit)) (now (scratch .exit)) ⌝ }
 {
     let read = reading_records::read_record(record);

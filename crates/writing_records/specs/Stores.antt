@@ -1,18 +1,18 @@
 -- Laws of stores in a row: what stands in the output after the parts of a record. Assumes nothing.
-use Prim.Native.Nat.{ℕ, zero, suc, _+_, _*_}
+use Prim.Native.Nat.{ℕ, zero, suc, _+_, _*_, _≤_}
 use mathlib.Core.Path.{_≡_, refl, sym, ap, _∙_}
 use mathlib.Core.List.{List, [], _∷_, _++_}
 use native.Mathlib.Omega.{arith}
-use lib.ListN.{length}
+use lib.ListN.{length, length-append}
 use lib.Seq.{sets}
 use mathlib.Core.Bool.{Bool}
 use Rattle.temporal.specs.Ticket.{Window}
 use Rattle.ticket.specs.Format.{Entry}
 use Rattle.ticket.specs.Writer.{bytes, each, writeTicket, entries, writeWindow, writeState}
 use Rattle.ticket.specs.RoundTrip.{length-bytes, length-each, length-ticket, length-window}
-use Rattle.ticket.specs.Writing.{firsts, ownerIn, ruleIn, committedIn, windowIn, entryIn, stateOf, content}
+use Rattle.ticket.specs.Writing.{firsts, ownerIn, ruleIn, committedIn, windowIn, entryIn, stateOf, content, over}
 use Rattle.ticket.specs.WritingLaws.{length-firsts}
-use Rattle.writing.specs.Stores.{sets-each, sets-then}
+use Rattle.writing.specs.Stores.{sets-each, sets-then, sets-over}
 use Rattle.writing_records.specs.Parts.{planBytes}
 use Rattle.ticket.specs.declared.Record.{Record}
 
@@ -49,12 +49,34 @@ sets-plan l r at =
     ∙ sets-then (bytes 2 n) _ _ at (at + 2) (omega (arith, length-bytes 2 n))
 
 -- The ticket, and what comes after it.
-pub sets-record : (l : List ℕ) (r : Record) → let t = r .ticket in
-    sets (sets l 0 (writeTicket (content t))) (8 + t .events + 6 * t .rules) (planBytes r) ≡ sets l 0 (writeState (stateOf r))
-unfolding writeState
-sets-record l r =
-    let t = r .ticket in
-    let n = t .events in
-    let k = content t in
-    rw (length-firsts n (windowIn r), entries-firsts r n)
-    (sets-then (writeTicket k) _ l 0 (8 + n + 6 * t .rules) (omega (arith, length-ticket k, length-firsts n (ownerIn t), length-firsts (t .rules) (ruleIn t))))
+module _ (r : Record) where
+  parts : writeState (stateOf r) ≡ writeTicket (content (r .ticket)) ++ planBytes r
+  unfolding writeState
+  parts = rw (length-firsts (r .ticket .events) (windowIn r), entries-firsts r (r .ticket .events))
+
+  long-ticket : length (writeTicket (content (r .ticket))) ≡ 8 + r .ticket .events + 6 * r .ticket .rules
+  long-ticket =
+      let t = r .ticket in
+      omega (arith, length-ticket (content t), length-firsts (t .events) (ownerIn t), length-firsts (t .rules) (ruleIn t))
+
+  pub length-record : length (writeState (stateOf r)) ≡ 12 + 10 * r .ticket .events + 6 * r .ticket .rules
+  length-record =
+      let n = r .ticket .events in
+      let es = firsts n (entryIn r) in
+      rw parts
+      (simp length-append
+      (omega (
+        arith,
+        long-ticket,
+        length-bytes 2 n,
+        length-each writeWindow 9 length-window es,
+        length-firsts n (entryIn r),
+        length-bytes 2 (r .number),
+      )))
+
+  pub sets-record : (l : List ℕ) → r .ticket .events ≤ 40 → r .ticket .rules ≤ 256 → 1948 ≤ length l
+      → sets (sets l 0 (writeTicket (content (r .ticket)))) (8 + r .ticket .events + 6 * r .ticket .rules) (planBytes r) ≡ over (writeState (stateOf r)) l
+  sets-record l few-events few-rules room =
+      sets-then (writeTicket (content (r .ticket))) (planBytes r) l 0 (8 + r .ticket .events + 6 * r .ticket .rules) (omega (arith, long-ticket))
+      ∙ ap (sets l 0) (sym parts)
+      ∙ sets-over (writeState (stateOf r)) l (omega (arith, length-record))

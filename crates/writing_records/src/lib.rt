@@ -8,7 +8,7 @@ ghost use lib.Seq.{sets};
 ghost use mathlib.Core.List.{[]};
 ghost use Rattle.temporal.specs.Run.{setFlags};
 ghost use Rattle.ticket.specs.Writer.{each, flagByte, windowBytes, writeWindow, writeState};
-ghost use Rattle.ticket.specs.Writing.{firsts, tests, flagIn, entryIn, stateOf, testWindow, testRecord, verdict, Storable, recordWritten, recordOutput};
+ghost use Rattle.ticket.specs.Writing.{firsts, tests, flagIn, entryIn, stateOf, testWindow, testRecord, verdict, Storable, over, recordWritten, recordOutput};
 ghost use Rattle.writing_records.specs.Parts.{planBytes};
 use ticket::RECORD_BYTES;
 use ticket::Record;
@@ -116,15 +116,19 @@ fn put_plan(r: Record, out: &mut [u8], at: usize)
     writing::put_u16(out, at + 2 + 9 * n, number);
 }
 
-// The bytes of r at the start of out.
-fn put_record(r: Record, out: &mut [u8])
+// The bytes of r at the start of out, with no test. How many they are.
+pub fn put_record(r: Record, out: &mut [u8]) -> usize
     requires { ⌜ Storable r ⌝ }
     requires { ⌜ 1948 ≤ length (now out) ⌝ }
-    ensures { λ _. ⌜ now (out .exit) ≡ sets (now (out .entry)) 0 (writeState (stateOf r)) ⌝ }
+    ensures { λ k. ⌜ k ≡ length (writeState (stateOf r)) ⌝ }
+    ensures { λ k. ⌜ now (out .exit) ≡ over (writeState (stateOf r)) (now (out .entry)) ⌝ }
 {
     let t = r.ticket;
+    let n = t.events;
+    let m = t.rules;
     writing::put_ticket(t, out);
-    put_plan(r, out, 8 + t.events + 6 * t.rules);
+    put_plan(r, out, 8 + n + 6 * m);
+    12 + 10 * n + 6 * m
 }
 
 // The record at the start of out.
@@ -145,11 +149,6 @@ pub fn write_record(r: Record, out: &mut [u8]) -> Written
             length: 0,
         };
     }
-    put_record(r, out);
-    let n = r.ticket.events;
-    let m = r.ticket.rules;
-    Written {
-        number: 0,
-        length: 12 + 10 * n + 6 * m,
-    }
+    let length = put_record(r, out);
+    Written { number: 0, length }
 }

@@ -1,21 +1,23 @@
--- `beyunlak::beyunlak_commit` meets its contract: what `plan::commit` ensures, where the scratch is 8,192 zeros. Assumes nothing.
+-- `beyunlak::beyunlak_commit` meets its contract: what `plan::commit_bytes` ensures, told as of 8,192 zeros. Assumes nothing.
 use Prim.Native.Nat.{ℕ}
-use mathlib.Core.Path.{ap, _∙_}
-use mathlib.Core.List.{List}
+use mathlib.Core.Path.{sym}
+use native.Mathlib.Nat.{le-of-eq}
+use native.Mathlib.Omega.{arith}
+use lib.ListN.{replicate, length-replicate}
 use borrow.Author.Needs.{needs}
-use Rattle.runs.specs.Calls.{committing}
-use Rattle.plan.specs.declared.Answer.{Answer}
+use Rattle.plan.specs.Meets.{committed-short, committed-told}
 use Rattle.beyunlak.proofs.beyunlak_commit.Statement.{statement}
 use Rattle.beyunlak.proofs.beyunlak_commit.Tie as tie
 
 returns : tie.Need-returns
 returns c =
-    let a = c .before .before .before .before .before .before .before .before .before .args in
-    let e = c .before .before .before .before .before .before .scratch .ensures in
-    let p = c .before .before .before .commit .ensures in (
-      ap (λ (r : Answer). r .number) (p .0) ∙ ap (λ (s : List ℕ). committing (a .record .now) (a .event) (a .open) (a .close) (a .out .now) s .number) e,
-      p .1 .0 ∙ ap (λ (s : List ℕ). committing (a .record .now) (a .event) (a .open) (a .close) (a .out .now) s .out) e,
-    )
+    let a = c .before .before .before .args in
+    committed-short (a .out .now) (replicate 8192 0) (a .record .now) (a .event) (a .open) (a .close) (omega arith)
+
+returns-2 : tie.Need-returns-2
+returns-2 c =
+    let a = c .before .before .before .before .before .before .before .before .before .before .args in
+    committed-told (a .out .now) (replicate 8192 0) (omega arith) (le-of-eq (sym (length-replicate {A = ℕ} 8192 0))) (a .record .now) (a .event) (a .open) (a .close) (c .before .before .before .commit-bytes .ensures)
 
 pub beyunlak-commit-spec : {M : Type 1} → statement M
-beyunlak-commit-spec = tie.close (tie.spec (λ c κs. search needs) (λ c. search needs) (λ c κs. search needs) (λ c. search needs) returns)
+beyunlak-commit-spec = tie.close (tie.spec returns (λ c κs. search needs) (λ c. search needs) (λ c κs. search needs) (λ c. search needs) returns-2)

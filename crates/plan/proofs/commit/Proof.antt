@@ -16,7 +16,7 @@ returns c =
     whole-short (s .out .now) (s .scratch .now) (committing-short (s .record .now) (s .event) (s .opens) (s .closes) (s .out .now) (s .scratch .now) (short-room (s .out .now) (s .scratch .now) (c .before .before .short .ensures) (c .before .if1 .taken))) (c .refusal .ensures)
 
 commit-bytes-requires : tie.Need-commit-bytes-requires
-commit-bytes-requires c κs = long-enough (c .before .before .before .before .before .before .before .args .out .now) (c .before .before .before .before .before .before .before .args .scratch .now) (c .before .before .before .short .ensures) (c .before .before .if1 .left)
+commit-bytes-requires c κs = let l = long-enough (c .before .before .before .before .before .before .before .args .out .now) (c .before .before .before .before .before .before .before .args .scratch .now) (c .before .before .before .short .ensures) (c .before .before .if1 .left) in (l .0, omega (arith, l .1))
 
 clear-requires : tie.Need-clear-requires
 clear-requires c κs = omega (arith, long-enough (c .before .before .before .before .before .before .before .before .before .before .before .before .before .args .out .now) (c .before .before .before .before .before .before .before .before .before .before .before .before .before .args .scratch .now) (c .before .before .before .before .before .before .before .before .before .short .ensures) (c .before .before .before .before .before .before .before .before .if1 .left))

@@ -17,7 +17,7 @@ slice-aggregate-plan-windows : tie.Need-slice-aggregate-plan-windows
 slice-aggregate-plan-windows c = sym (length-take-le 1824 (c .before .before .before .args .scratch .now) (omega (arith, c .before .before .before .pre .1)))
 
 plan-windows-requires : tie.Need-plan-windows-requires
-plan-windows-requires c κs = plan-asked (c .before .before .before .before .before .pre .0 .1) (length-take-le 1824 (c .before .before .before .before .before .args .scratch .now) (omega (arith, c .before .before .before .before .before .pre .1))) refl refl
+plan-windows-requires c κs = plan-asked (c .before .before .before .before .before .pre .0) (length-take-le 1824 (c .before .before .before .before .before .args .scratch .now) (omega (arith, c .before .before .before .before .before .pre .1))) refl refl
 
 refusal-requires : tie.Need-refusal-requires
 refusal-requires c κs = search needs
@@ -31,7 +31,7 @@ returns c =
     (past-part 8192 1824 (c .before .before .before .before .before .before .before .before .before .before .args .scratch .now) (c .before .before .before .before .plan-windows .last .0) (omega arith) (c .before .before .before .before .plan-windows .ensures .1 ∙ length-take-le 1824 (c .before .before .before .before .before .before .before .before .before .before .args .scratch .now) (omega (arith, c .before .before .before .before .before .before .before .before .before .before .pre .1))))
 
 write-out-requires : tie.Need-write-out-requires
-write-out-requires c κs = (kept-planned (c .before .before .before .before .plan-windows .ensures .0) (c .before .before .before .before .before .before .before .before .before .before .pre .0 .0) (c .before .before .before .before .before .before .before .before .before .before .pre .0 .1) refl refl (not-false _ (c .before .if1 .left)), c .before .before .before .before .before .before .before .before .before .before .pre .1 .0)
+write-out-requires c κs = (kept-planned (c .before .before .before .before .plan-windows .ensures .0) (c .before .before .before .before .before .before .before .before .before .before .pre .0) refl refl (not-false _ (c .before .if1 .left)), c .before .before .before .before .before .before .before .before .before .before .pre .1 .0)
 
 same-length-2 : tie.Need-same-length-2
 same-length-2 c = search needs

@@ -1,6 +1,6 @@
 -- `plan::write_out` meets its contract: what is written of a kept record, and its total. Assumes nothing.
-use Rattle.causes.specs.Structs.{lies-asked}
-use Rattle.plan.specs.Steps.{written-out}
+use Rattle.potentials.specs.Arrays.{windowList}
+use Rattle.causes.specs.Structs.{lies-asked, kept-storable}
 use borrow.Author.Needs.{needs}
 use Rattle.plan.proofs.write_out.Statement.{statement}
 use Rattle.plan.proofs.write_out.Tie as tie
@@ -8,15 +8,18 @@ use Rattle.plan.proofs.write_out.Tie as tie
 total-requires : tie.Need-total-requires
 total-requires c κs = lies-asked (c .before .before .before .before .before .before .pre .0)
 
-write-record-requires : tie.Need-write-record-requires
-write-record-requires c κs = search needs
+put-record-requires : tie.Need-put-record-requires
+put-record-requires c κs = (kept-storable (c .before .before .before .before .before .before .before .before .args .r) (c .before .before .before .before .before .before .before .before .pre .0), c .before .before .before .before .before .before .before .before .pre .1)
 
 same-length : tie.Need-same-length
 same-length c = search needs
 
 returns : tie.Need-returns
-returns c = written-out (c .before .before .before .before .before .before .before .before .before .before .before .args .out .now) (c .before .before .before .before .before .before .before .before .before .before .before .pre .0) (c .before .before .before .before .before .before .before .before .before .before .before .pre .1) (c .before .before .before .before .total .ensures) (c .before .before .write-record .ensures .0) (c .before .before .write-record .ensures .1)
+unfolding windowList
+returns c =
+    let p = c .before .before .put-record .ensures in
+    let x = c .before .before .before .before .total .ensures in
+    (λ i. record { number = 0; length = p .0 i; total = x i }, p .1)
 
 pub write-out-spec : {M : Type 1} → statement M
-write-out-spec =
-    tie.close (tie.spec total-requires write-record-requires same-length returns)
+write-out-spec = tie.close (tie.spec total-requires put-record-requires same-length returns)

@@ -1,23 +1,25 @@
 -- `writing_records::put_record` meets its contract. The ticket, and what comes after it. Assumes nothing.
 use Prim.Native.Nat.{_+_, _*_}
-use mathlib.Core.Path.{ap, _∙_}
+use mathlib.Core.Path.{sym, ap, _∙_}
 use lib.Seq.{sets}
 use Rattle.writing_records.specs.Parts.{planBytes}
-use Rattle.writing_records.specs.Stores.{sets-record}
+use Rattle.writing_records.specs.Stores.{length-record, sets-record}
 use borrow.Author.Needs.{needs}
 use Rattle.writing_records.proofs.put_record.Statement.{statement}
 use Rattle.writing_records.proofs.put_record.Tie as tie
 
 same-length : tie.Need-same-length
-same-length c = c .before .before .put-plan .kept .1 .0 ∙ c .before .before .before .before .before .before .before .before .put-ticket .kept .1 .0
+same-length c = c .before .before .put-plan .kept .1 .0 ∙ c .before .before .before .before .before .before .put-ticket .kept .1 .0
 
 returns : tie.Need-returns
 returns c =
-    let a = c .before .before .before .before .before .before .before .before .before .before .before .before .args in
-    let t = a .r .ticket in
-    c .before .before .put-plan .ensures
-    ∙ ap (λ l. sets l (8 + t .events + 6 * t .rules) (planBytes (a .r))) (c .before .before .before .before .before .before .before .before .put-ticket .ensures)
-    ∙ sets-record (a .out .now) (a .r)
+    let s = c .before .before .before .before .before .before .before .before .before .before in
+    let t = s .args .r .ticket in (
+      sym (length-record (s .args .r)),
+      c .before .before .put-plan .ensures
+          ∙ ap (λ l. sets l (8 + t .events + 6 * t .rules) (planBytes (s .args .r))) (c .before .before .before .before .before .before .put-ticket .ensures)
+          ∙ sets-record (s .args .r) (s .args .out .now) (s .pre .0 .events-limit) (s .pre .0 .rules-limit) (s .pre .1),
+    )
 
 pub put-record-spec : {M : Type 1} → statement M
 put-record-spec =
@@ -28,5 +30,9 @@ put-record-spec =
     (λ c. search needs)
     (λ c. search needs)
     (λ c κs. search needs)
+    (λ c. search needs)
+    (λ c. search needs)
+    (λ c. search needs)
+    (λ c. search needs)
     same-length
     returns)

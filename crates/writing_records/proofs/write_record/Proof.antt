@@ -1,17 +1,10 @@
 -- `writing_records::write_record` meets its contract. Each refusal is one stage of the writing. Assumes nothing.
-use Prim.Native.Nat.{_+_, _*_}
 use mathlib.Core.Path.{_≡_, refl, sym, ap, _∙_}
 use mathlib.Core.List.{[]}
 use native.Mathlib.Omega.{arith}
-use lib.ListN.{length}
-use Rattle.temporal.specs.Run.{Readable}
 use Rattle.ticket.specs.Parser.{got, number}
-use Rattle.ticket.specs.Writer.{writeState}
-use Rattle.ticket.specs.RoundTrip.{length-readable}
-use Rattle.ticket.specs.Writing.{ownerIn, ruleIn, windowIn, stateOf, Storable, testRecord, writingRecord, told, left}
-use Rattle.ticket.specs.Sizes.{record-bytes}
-use Rattle.ticket.specs.WritingLaws.{refusal, verdict-refused, verdict-passed, record-fixed, length-firsts}
-use Rattle.writing.specs.Stores.{sets-over}
+use Rattle.ticket.specs.Writing.{testRecord, writingRecord, told, left}
+use Rattle.ticket.specs.WritingLaws.{refusal, verdict-refused, verdict-passed, record-fixed}
 use Rattle.ticket.specs.WriteStages.{no-record-room, record-fails, record-written}
 use Rattle.ticket.specs.Agree.{tested-readable}
 use borrow.Author.Needs.{needs}
@@ -23,9 +16,6 @@ passed : (c : tie.Else2) → testRecord (c .before .before .before .before .args
 passed c =
     let k = c .before .test-record in
     verdict-passed (testRecord (c .before .before .before .before .args .r)) (record-fixed (c .before .before .before .before .args .r)) [] (k .result) (k .ensures) (c .if2 .left)
-
-readable : (c : tie.Else2) → Readable (stateOf (c .before .before .before .before .args .r)) × Storable (c .before .before .before .before .args .r)
-readable c = tested-readable (c .before .before .before .before .args .r) [] tt [] (passed c)
 
 returns : tie.Need-returns
 unfolding number
@@ -43,19 +33,7 @@ returns-2 c =
     refusal o (writingRecord o r []) (k .result) (no .0) (no .2) (record-fails o r (omega arith) (no .0) (no .1))
 
 put-record-requires : tie.Need-put-record-requires
-put-record-requires c κs = (readable (c .before) .1, omega arith)
-
-mul-t6 : tie.Need-mul-t6
-mul-t6 c = let g = readable (c .before .before .before .before) .1 in omega (arith, g .events-limit)
-
-add-t11 : tie.Need-add-t11
-add-t11 c = let g = readable (c .before .before .before .before) .1 in omega (arith, g .events-limit)
-
-mul-t12 : tie.Need-mul-t12
-mul-t12 c = let g = readable (c .before .before .before .before) .1 in omega (arith, g .rules-limit)
-
-add-t13 : tie.Need-add-t13
-add-t13 c = let g = readable (c .before .before .before .before) .1 in omega (arith, g .events-limit, g .rules-limit)
+put-record-requires c κs = (tested-readable (c .before .before .before .before .before .args .r) [] tt [] (passed (c .before)) .1, omega arith)
 
 same-length : tie.Need-same-length
 same-length c = search needs
@@ -63,18 +41,9 @@ same-length c = search needs
 returns-3 : tie.Need-returns-3
 returns-3 c =
     let a = c .before .before .before .before .before .before .before .before .args in
-    let o = a .out .now in
-    let r = a .r in
-    let t = r .ticket in
-    let g = readable (c .before .before .before .before) in
-    let e = record-written o r (omega arith) (passed (c .before .before .before .before)) in
-    let long : length (writeState (stateOf r)) ≡ 12 + 10 * t .events + 6 * t .rules =
-    omega (arith, length-readable (stateOf r) (g .0), length-firsts (t .events) (ownerIn t), length-firsts (t .rules) (ruleIn t), length-firsts (t .events) (windowIn r)) in (
-      rw (← long) (ap told (sym e)),
-      c .before .before .put-record .ensures
-          ∙ sets-over (writeState (stateOf r)) o (omega (arith, record-bytes (stateOf r) (g .0)))
-          ∙ ap (left o) (sym e),
-    )
+    let p = c .before .before .put-record .ensures in
+    let e = record-written (a .out .now) (a .r) (omega arith) (passed (c .before .before .before .before)) in
+    (ap (λ k. record { number = 0; length = k }) (p .0) ∙ ap told (sym e), p .1 ∙ ap (left (a .out .now)) (sym e))
 
 pub write-record-spec : {M : Type 1} → statement M
 write-record-spec =
@@ -84,9 +53,5 @@ write-record-spec =
     test-record-requires
     returns-2
     put-record-requires
-    mul-t6
-    add-t11
-    mul-t12
-    add-t13
     same-length
     returns-3)
