@@ -10,6 +10,7 @@ ghost use Rattle.admit.specs.Admit.{Admits};
 ghost use Rattle.potentials.specs.Arrays.{Given};
 ghost use Rattle.demands.specs.Rules.{Small};
 ghost use Rattle.schedule.specs.Schedule.{Low, Tried, Decided};
+ghost use Rattle.schedule.specs.Relax.{HoldFrom, Raised};
 use network::BIAS;
 
 // Raise the time of `from` to what the rule asks. 0: the rule held, 1: raised, 2: it cannot be raised so far.
@@ -18,6 +19,7 @@ fn raise(times: &mut [u32; 81], n: usize, horizon: u32, from: u8, to: u8, bound:
     requires { ⌜ Small n from to bound ⌝ }
     requires { ⌜ (n ≤ 40) × (horizon ≤ 1000000) ⌝ }
     ensures { λ _. ⌜ Low n horizon (now (times .exit)) ⌝ }
+    ensures { λ r. ⌜ Raised (now (times .entry)) (now (times .exit)) from to bound r ⌝ }
 {
     let a = demands::wide(from);
     let c = demands::cost(bound);
@@ -35,40 +37,55 @@ fn raise(times: &mut [u32; 81], n: usize, horizon: u32, from: u8, to: u8, bound:
     1
 }
 
-// Raise the times, rule by rule. The largest answer of `raise`.
-fn round(t: ticket::Ticket, times: &mut [u32; 81]) -> u32
+// Raise the times, rule by rule, where the rules from `kept` on hold. The rules from the answer on hold then; it is past all rules where one cannot be kept.
+// Where nothing was raised, the rules from `kept` on need no second look.
+fn round(t: ticket::Ticket, kept: usize, times: &mut [u32; 81]) -> usize
     requires { ⌜ Given t ⌝ }
     requires { ⌜ Low (t .events) (t .horizon) (now times) ⌝ }
+    requires { ⌜ (kept ≤ t .rules) × HoldFrom t (now times) kept ⌝ }
     ensures { λ _. ⌜ Low (t .events) (t .horizon) (now (times .exit)) ⌝ }
+    ensures { λ r. ⌜ HoldFrom t (now (times .exit)) r ⌝ }
 {
-    let mut most = 0;
+    let mut last = 0;
+    let mut end = kept;
     let mut j = 0;
-    while j < t.rules {
+    while j < end {
         let from = t.from[j];
         let to = t.to[j];
         let bound = t.bound[j];
-        most = network::most(most, raise(times, t.events, t.horizon, from, to, bound));
-        if most == 2 {
-            return 2;
-        }
+        let k = raise(times, t.events, t.horizon, from, to, bound);
         j += 1;
+        if k == 2 {
+            return t.rules + 1;
+        }
+        if k != 0 {
+            last = j;
+            end = t.rules;
+        }
     }
-    most
+    last
 }
 
-// Raise the times until a round changes none or a rule cannot be kept. A schedule takes a round for each point and one more.
-fn relax(t: ticket::Ticket, times: &mut [u32; 81])
+// Raise the times until all rules hold, which the answer 0 says, or one cannot be kept. A schedule takes a round for each point and one more.
+fn relax(t: ticket::Ticket, times: &mut [u32; 81]) -> usize
     requires { ⌜ Given t ⌝ }
     requires { ⌜ Low (t .events) (t .horizon) (now times) ⌝ }
     ensures { λ _. ⌜ Low (t .events) (t .horizon) (now (times .exit)) ⌝ }
+    ensures { λ r. ⌜ HoldFrom t (now (times .exit)) r ⌝ }
 {
+    let mut kept = t.rules;
     let mut rounds = 42u32;
     while 0 < rounds {
-        if round(t, times) != 1 {
-            return;
+        kept = round(t, kept, times);
+        if kept == 0 {
+            return 0;
+        }
+        if t.rules < kept {
+            return kept;
         }
         rounds -= 1;
     }
+    kept
 }
 
 // Add rule j to the network of the points, with the times moved as need be. Whether it can be kept.
@@ -153,8 +170,7 @@ pub fn schedule(net: &mut [u32], t: ticket::Ticket, times: &mut [u32; 81]) -> bo
     ensures { λ r. ⌜ Decided t (now (times .exit)) r ⌝ }
     ensures { λ _. ⌜ length (now (net .exit)) ≡ length (now (net .entry)) ⌝ }
 {
-    relax(t, times);
-    if demands::obeyed(t, 0, times) {
+    if relax(t, times) == 0 {
         return true;
     }
     search(net, t, times)

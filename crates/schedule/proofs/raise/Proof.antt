@@ -1,10 +1,13 @@
 -- `raise` meets its contract.
 use native.Mathlib.Omega.{arith}
 use Prim.Native.Nat.{_≤_}
+use mathlib.Core.Path.{ap}
 use mir.Syntax.{w32}
 use mir.ValLaws.{toZ-ofZ}
 use Rattle.demands.specs.Rules.{biased-most}
+use Rattle.network.specs.Stored.{at}
 use Rattle.schedule.specs.Schedule.{low-set}
+use Rattle.schedule.specs.Relax.{raised-held, raised-other}
 use borrow.Author.Needs.{needs}
 use Rattle.schedule.proofs.raise.Statement.{statement}
 use Rattle.schedule.proofs.raise.Tie as tie
@@ -42,13 +45,16 @@ add-if1 : tie.Need-add-if1
 add-if1 c = omega (arith, c .before .before .before .before .before .pre .0 .most (c .before .before .before .before .wide .result) (tail-most (c .before .before .before .before)), cost-most (c .before .before .before))
 
 returns : tie.Need-returns
-returns c = c .before .before .before .before .before .before .pre .0
+returns c =
+    let s = c .before .before .before .before .before .before in
+    let cost = rw (toZ-ofZ w32 (s .args .bound) (s .fits .bound)) at (c .before .before .before .before .cost .ensures) in
+    (s .pre .0, raised-held (omega (arith, c .if1 .taken, ap (at (s .args .times .now)) (c .before .before .before .before .before .wide .ensures), ap (at (s .args .times .now)) (c .before .before .before .wide2 .ensures), cost)))
 
 returns-2 : tie.Need-returns-2
-returns-2 c = c .before .before .before .before .before .before .before .pre .0
+returns-2 c = (c .before .before .before .before .before .before .before .pre .0, raised-other (omega arith))
 
 returns-3 : tie.Need-returns-3
-returns-3 c = c .before .before .before .before .before .before .before .before .pre .0
+returns-3 c = (c .before .before .before .before .before .before .before .before .pre .0, raised-other (omega arith))
 
 mul-times : tie.Need-mul-times
 mul-times c = omega (arith, tail-most (c .before .before .before .before .before .before .before))
@@ -57,7 +63,7 @@ element-write-times : tie.Need-element-write-times
 element-write-times c = omega (arith, tail-most (c .before .before .before .before .before .before .before), c .before .before .before .before .before .before .before .before .pre .0 .long)
 
 returns-4 : tie.Need-returns-4
-returns-4 c = low-set (omega arith) (omega (arith, tail-most (c .before .before .before .before .before .before .before))) (omega arith) (c .before .before .before .before .before .before .before .before .pre .0)
+returns-4 c = (low-set (omega arith) (omega (arith, tail-most (c .before .before .before .before .before .before .before))) (omega arith) (c .before .before .before .before .before .before .before .before .pre .0), raised-other (omega arith))
 
 pub raise-spec : {M : Type 1} → statement M
 raise-spec =
