@@ -8,7 +8,8 @@ ghost use mathlib.Core.List.{[]};
 ghost use mir.Syntax.{w32};
 ghost use mir.Val.{ofZ};
 ghost use Rattle.ticket.specs.Writer.{bytes, each, ruleBytes, writeRule, writeTicket};
-ghost use Rattle.ticket.specs.Writing.{firsts, ownerIn, ruleIn, tests, content, testOwner, testRule, testTicket, writtenOf, outputOf, verdict};
+ghost use Rattle.ticket.specs.Writing.{firsts, tests, content, testOwner, testRule, testTicket, writtenOf, outputOf, verdict};
+ghost use Rattle.writing.specs.Rules.{numberAt, ruleOf};
 use ticket::TICKET_BYTES;
 use ticket::Ticket;
 use ticket::Written;
@@ -86,16 +87,14 @@ fn test_rules(t: Ticket) -> u32
     0
 }
 
-// The owners of t at `at`.
-fn put_owners(t: Ticket, out: &mut [u8], at: usize)
-    requires { ⌜ (t .events ≤ 40) × (at + t .events ≤ length (now out)) ⌝ }
-    ensures { λ _. ⌜ now (out .exit) ≡ sets (now (out .entry)) at (firsts (t .events) (ownerIn t)) ⌝ }
+// The first n owners at `at`.
+fn put_owners(out: &mut [u8], at: usize, n: usize, owners: &[u8; Ticket::EVENTS])
+    requires { ⌜ (n ≤ 40) × (at + n ≤ length (now out)) ⌝ }
+    ensures { λ _. ⌜ now (out .exit) ≡ sets (now (out .entry)) at (firsts n (numberAt (now (owners .entry)))) ⌝ }
 {
-    let n = t.events;
     let mut i = 0;
     while i < n {
-        let b = t.owners[i];
-        out[at + i] = b;
+        out[at + i] = owners[i];
         i += 1;
     }
 }
@@ -110,18 +109,22 @@ fn put_rule(out: &mut [u8], at: usize, from: u8, to: u8, b: u32)
     put_u32(out, at + 2, b);
 }
 
-// The rules of t at `at`.
-fn put_rules(t: Ticket, out: &mut [u8], at: usize)
-    requires { ⌜ (t .rules ≤ 256) × (at + 6 * t .rules ≤ length (now out)) ⌝ }
-    ensures { λ _. ⌜ now (out .exit) ≡ sets (now (out .entry)) at (each writeRule (firsts (t .rules) (ruleIn t))) ⌝ }
+// The first m rules at `at`.
+fn put_rules<'a>(
+    out: &mut [u8],
+    at: usize,
+    m: usize,
+    from: &'a [u8; Ticket::RULES],
+    to: &'a [u8; Ticket::RULES],
+    bound: &'a [i32; Ticket::RULES],
+)
+    requires { ⌜ (m ≤ 256) × (at + 6 * m ≤ length (now out)) ⌝ }
+    ensures { λ _. ⌜ now (out .exit) ≡ sets (now (out .entry)) at (each writeRule (firsts m (ruleOf (now (from .entry)) (now (to .entry)) (now (bound .entry))))) ⌝ }
 {
-    let m = t.rules;
     let mut i = 0;
     while i < m {
-        let from = t.from[i];
-        let to = t.to[i];
-        let bound = t.bound[i];
-        put_rule(out, at + 6 * i, from, to, bits(bound));
+        let c = bound[i];
+        put_rule(out, at + 6 * i, from[i], to[i], bits(c));
         i += 1;
     }
 }
@@ -156,9 +159,9 @@ pub fn put_ticket(t: Ticket, out: &mut [u8])
     let m = t.rules;
     put_u32(out, 0, horizon);
     put_u16(out, 4, n);
-    put_owners(t, out, 6);
+    put_owners(out, 6, n, &t.owners);
     put_u16(out, 6 + n, m);
-    put_rules(t, out, 8 + n);
+    put_rules(out, 8 + n, m, &t.from, &t.to, &t.bound);
 }
 
 // The ticket at the start of out.

@@ -8,10 +8,12 @@ ghost use lib.Seq.{sets};
 ghost use mathlib.Core.List.{[]};
 ghost use Rattle.temporal.specs.Run.{setFlags};
 ghost use Rattle.ticket.specs.Writer.{each, flagByte, windowBytes, writeWindow, writeState};
-ghost use Rattle.ticket.specs.Writing.{firsts, tests, flagIn, entryIn, stateOf, testWindow, testRecord, verdict, Storable, over, recordWritten, recordOutput};
-ghost use Rattle.writing_records.specs.Parts.{planBytes};
+ghost use Rattle.ticket.specs.Writing.{firsts, tests, stateOf, testWindow, testRecord, verdict, Storable, over, recordWritten, recordOutput};
+ghost use Rattle.writing.specs.Rules.{numberAt};
+ghost use Rattle.writing_records.specs.Parts.{entryOf, planBytes};
 use ticket::RECORD_BYTES;
 use ticket::Record;
+use ticket::Ticket;
 use ticket::Written;
 
 // The first cause among the windows of r, or 0.
@@ -87,18 +89,21 @@ fn put_window(out: &mut [u8], at: usize, flag: u8, opens: u32, closes: u32)
     writing::put_u32(out, at + 5, closes);
 }
 
-// The windows of r at `at`.
-fn put_windows(r: Record, out: &mut [u8], at: usize)
-    requires { ⌜ (r .ticket .events ≤ 40) × ((i : ℕ) → i < r .ticket .events → flagIn r i ≤ 1) × (at + 9 * r .ticket .events ≤ length (now out)) ⌝ }
-    ensures { λ _. ⌜ now (out .exit) ≡ sets (now (out .entry)) at (each writeWindow (firsts (r .ticket .events) (entryIn r))) ⌝ }
+// The first n windows with their flags at `at`.
+fn put_windows<'a>(
+    out: &mut [u8],
+    at: usize,
+    n: usize,
+    flags: &'a [u8; Ticket::EVENTS],
+    opens: &'a [u32; Ticket::EVENTS],
+    closes: &'a [u32; Ticket::EVENTS],
+)
+    requires { ⌜ (n ≤ 40) × ((i : ℕ) → i < n → numberAt (now flags) i ≤ 1) × (at + 9 * n ≤ length (now out)) ⌝ }
+    ensures { λ _. ⌜ now (out .exit) ≡ sets (now (out .entry)) at (each writeWindow (firsts n (entryOf (now (flags .entry)) (now (opens .entry)) (now (closes .entry))))) ⌝ }
 {
-    let n = r.ticket.events;
     let mut i = 0;
     while i < n {
-        let flag = r.flags[i];
-        let opens = r.opens[i];
-        let closes = r.closes[i];
-        put_window(out, at + 9 * i, flag, opens, closes);
+        put_window(out, at + 9 * i, flags[i], opens[i], closes[i]);
         i += 1;
     }
 }
@@ -112,7 +117,7 @@ fn put_plan(r: Record, out: &mut [u8], at: usize)
     let n = r.ticket.events;
     let number = r.number as usize;
     writing::put_u16(out, at, n);
-    put_windows(r, out, at + 2);
+    put_windows(out, at + 2, n, &r.flags, &r.opens, &r.closes);
     writing::put_u16(out, at + 2 + 9 * n, number);
 }
 

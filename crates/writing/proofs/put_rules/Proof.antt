@@ -1,21 +1,22 @@
 -- `writing::put_rules` meets its contract. The invariant: the rules so far are stored from the place `at`. Assumes nothing.
-use native.Mathlib.Omega.{arith}
 use Prim.Native.Nat.{_+_, _*_, _-_, _≤_}
 use mathlib.Core.Path.{_≡_, refl, sym, ap, _∙_}
+use native.Mathlib.Omega.{arith}
 use lib.ListN.{length}
 use lib.Seq.{sets}
 use Rattle.ticket.specs.Writer.{each, writeRule}
-use Rattle.ticket.specs.Writing.{firsts, ruleIn}
-use Rattle.writing.specs.Rules.{rule-written}
+use Rattle.ticket.specs.Writing.{firsts}
+use Rattle.writing.specs.Rules.{ruleOf, rule-written}
 use Rattle.writing.specs.Stores.{sets-rule}
 use Rattle.writing.proofs.put_rules.Statement.{statement}
 use Rattle.writing.proofs.put_rules.Tie as tie
 
 abbrev Inv-loop : tie.InvT-loop
-Inv-loop out₀ at t m i₀ out i = (i ≤ m) × (length out ≡ length out₀) × (out ≡ sets out₀ at (each writeRule (firsts i (ruleIn t))))
+Inv-loop out₀ at m from to bound i₀ out i =
+    (i ≤ m) × (length out ≡ length out₀) × (out ≡ sets out₀ at (each writeRule (firsts i (ruleOf from to bound))))
 
 abbrev μ-loop : tie.MeasureT-loop
-μ-loop out₀ at t m i₀ out i = m - i
+μ-loop out₀ at m from to bound i₀ out i = m - i
 
 loop-holds : tie.Need-loop-holds Inv-loop μ-loop
 unfolding firsts each
@@ -26,21 +27,21 @@ loop-again c =
     let a = c .before .before .before .before .before .before .before .before .before .before .before .args in
     let l = c .before .before .before .before .before .before .before .before .before .loop in
     let p = c .before .before .put-rule in
-    let r = ruleIn (a .t1) (l .i) in (
+    let rs = ruleOf (a .from .now) (a .to .now) (a .bound .now) in (
       omega arith,
       p .kept .0 ∙ l .inv .1,
       p .ensures
-          ∙ ap (sets _ (a .at + 6 * l .i)) (rule-written r (record { sfits = c .before .before .before .before .before .bound .given }) (c .before .before .before .bits .ensures))
-          ∙ ap (λ o. sets o (a .at + 6 * l .i) (writeRule r)) (l .inv .2)
-          ∙ sym (sets-rule (a .out .now) (a .at) (l .i) (ruleIn (a .t1))),
+          ∙ ap (sets _ (a .at + 6 * l .i)) (rule-written (rs (l .i)) (record { sfits = c .before .before .before .before .before .before .before .c .given }) (c .before .before .before .bits .ensures))
+          ∙ ap (λ o. sets o (a .at + 6 * l .i) (writeRule (rs (l .i)))) (l .inv .2)
+          ∙ sym (sets-rule (a .out .now) (a .at) (l .i) rs),
     )
 
 returns : tie.Need-returns Inv-loop μ-loop
 returns c =
     let a = c .before .before .before .args in
     let l = c .before .loop in
-    let e : l .i ≡ a .t1 .rules = omega arith in
-    l .inv .2 ∙ ap (λ k. sets (a .out .now) (a .at) (each writeRule (firsts k (ruleIn (a .t1))))) e
+    let e : l .i ≡ a .m = omega arith in
+    l .inv .2 ∙ ap (λ k. sets (a .out .now) (a .at) (each writeRule (firsts k (ruleOf (a .from .now) (a .to .now) (a .bound .now))))) e
 
 pub put-rules-spec : {M : Type 1} → statement M
 put-rules-spec =

@@ -36,20 +36,21 @@ same-length c = search needs
 
 returns : tie.Need-returns
 returns c =
-    let o = c .before .before .before .before .before .before .before .before .before .before .before .before .before .before .before .before .before .before .before .before .before .args .out .now in
-    let t = c .before .before .before .before .before .before .before .before .before .before .before .before .before .before .before .before .before .before .before .before .before .args .t in
+    let a = c .before .before .before .before .before .before .before .before .before .before .before .before .before .before .before .before .before .before .before .before .before .before .before .before .before .before .before .args in
+    let o = a .out .now in
+    let t = a .t1 in
     let n = t .events in
     let m = t .rules in
     let os = firsts n (ownerIn t) in
     let rs = firsts m (ruleIn t) in
     c .before .before .put-rules .ensures
     ∙ ap (λ l. sets l (8 + n) (each writeRule rs))
-    (c .before .before .before .before .before .before .put-u162 .ensures
+    (c .before .before .before .before .before .before .before .before .before .before .put-u162 .ensures
     ∙ ap (λ l. sets l (6 + n) (bytes 2 m))
-    (c .before .before .before .before .before .before .before .before .before .before .put-owners .ensures
+    (c .before .before .before .before .before .before .before .before .before .before .before .before .before .before .put-owners .ensures
     ∙ ap (λ l. sets l 6 os)
-    (c .before .before .before .before .before .before .before .before .before .before .before .before .before .before .put-u16 .ensures
-    ∙ ap (λ l. sets l 4 (bytes 2 n)) (c .before .before .before .before .before .before .before .before .before .before .before .before .before .before .before .before .before .before .put-u32 .ensures))))
+    (c .before .before .before .before .before .before .before .before .before .before .before .before .before .before .before .before .before .before .before .before .put-u16 .ensures
+    ∙ ap (λ l. sets l 4 (bytes 2 n)) (c .before .before .before .before .before .before .before .before .before .before .before .before .before .before .before .before .before .before .before .before .before .before .before .before .put-u32 .ensures))))
     ∙ sets-ticket o (t .horizon) n m os rs (length-firsts n (ownerIn t)) (length-firsts m (ruleIn t))
 
 pub put-ticket-spec : {M : Type 1} → statement M

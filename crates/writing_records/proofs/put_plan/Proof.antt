@@ -9,17 +9,15 @@ use borrow.Author.Needs.{needs}
 use Rattle.writing_records.proofs.put_plan.Statement.{statement}
 use Rattle.writing_records.proofs.put_plan.Tie as tie
 
-same-length : tie.Need-same-length
-same-length c = c .before .before .put-u162 .kept .0 ∙ c .before .before .before .before .before .before .put-windows .kept .1 .0 ∙ c .before .before .before .before .before .before .before .before .before .before .put-u16 .kept .0
-
 returns : tie.Need-returns
 returns c =
-    let a = c .before .before .before .before .before .before .before .before .before .before .before .before .before .before .args in
-    let n = a .r .ticket .events in
+    let a = c .before .before .before .before .before .before .before .before .before .before .before .before .before .before .before .before .before .args in
+    let r = a .t1 in
+    let n = r .ticket .events in
     c .before .before .put-u162 .ensures
-    ∙ ap (λ l. sets l (a .at + 2 + 9 * n) (bytes 2 (a .r .number)))
-    (c .before .before .before .before .before .before .put-windows .ensures ∙ ap (λ l. sets l (a .at + 2) (each writeWindow (firsts n (entryIn (a .r))))) (c .before .before .before .before .before .before .before .before .before .before .put-u16 .ensures))
-    ∙ sets-plan (a .out .now) (a .r) (a .at)
+    ∙ ap (λ l. sets l (a .at + 2 + 9 * n) (bytes 2 (r .number)))
+    (c .before .before .before .before .before .before .put-windows .ensures ∙ ap (λ l. sets l (a .at + 2) (each writeWindow (firsts n (entryIn r)))) (c .before .before .before .before .before .before .before .before .before .before .before .before .before .before .put-u16 .ensures))
+    ∙ sets-plan (a .out .now) r (a .at)
 
 pub put-plan-spec : {M : Type 1} → statement M
 put-plan-spec =
@@ -33,5 +31,5 @@ put-plan-spec =
     (λ c. search needs)
     (λ c. search needs)
     (λ c κs. search needs)
-    same-length
+    (λ c. search needs)
     returns)
