@@ -66,8 +66,9 @@ fn settle(
     ensures { λ _. ⌜ length (now (net .exit)) ≡ length (now (net .entry)) ⌝ }
 {
     let n = t.events;
+    let owners = t.owners;
     demands::build(net, t, low, high);
-    widest(net, n, 5 * n + t.rules, &t.owners, pot);
+    widest(net, n, 5 * n + t.rules, &owners, pot);
     potentials::read_windows(n, pot, opens, closes);
 }
 
