@@ -32,6 +32,7 @@ HoldFrom t times k = (i : ℕ) → k ≤ i → i < t .rules → Holds t 0 (at ti
 -- before rule j of a round, where the rules from `kept` on held at its start: the rules from `last` to j hold, and the round goes on to `end`
 pub record Rounds (t : Ticket) (kept : ℕ) (times : List ℕ) (last end j : ℕ) : Type 0 where
   pub low : Low (t .events) (t .horizon) times
+  pub least : last ≤ j
   pub within : j ≤ end
   pub few : end ≤ t .rules
   pub passed : (i : ℕ) → last ≤ i → i < j → Holds t 0 (at times) i
@@ -41,6 +42,7 @@ pub record Rounds (t : Ticket) (kept : ℕ) (times : List ℕ) (last end j : ℕ
 pub rounds-start : {t : Ticket} {kept : ℕ} {times : List ℕ} → Low (t .events) (t .horizon) times → kept ≤ t .rules → HoldFrom t times kept → Rounds t kept times 0 kept 0
 rounds-start L l h = record {
   low = L;
+  least = omega arith;
   within = omega arith;
   few = l;
   passed = λ i lo hi. absurd (omega arith);
@@ -55,6 +57,7 @@ module _ {t : Ticket} {kept : ℕ} {times : List ℕ} {last end j : ℕ} (R : Ro
       let e = S .same z in
       subst (λ xs. Rounds t kept xs last end (j + 1)) (sym e) (record {
         low = R .low;
+        least = omega (arith, R .least);
         within = omega arith;
         few = R .few;
         passed = λ i lo hi.
@@ -69,6 +72,7 @@ module _ {t : Ticket} {kept : ℕ} {times : List ℕ} {last end j : ℕ} (R : Ro
   pub rounds-raised : {times' : List ℕ} → j < end → Low (t .events) (t .horizon) times' → Rounds t kept times' (j + 1) (t .rules) (j + 1)
   rounds-raised l L = record {
     low = L;
+    least = omega arith;
     within = omega (arith, R .few);
     few = omega arith;
     passed = λ i lo hi. absurd (omega arith);

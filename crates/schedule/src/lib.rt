@@ -37,36 +37,8 @@ fn raise(times: &mut [u32; 81], n: usize, horizon: u32, from: u8, to: u8, bound:
     1
 }
 
-// Raise the times, rule by rule, where the rules from `kept` on hold. The rules from the answer on hold then; it is past all rules where one cannot be kept.
-// Where nothing was raised, the rules from `kept` on need no second look.
-fn round(t: ticket::Ticket, kept: usize, times: &mut [u32; 81]) -> usize
-    requires { ⌜ Given t ⌝ }
-    requires { ⌜ Low (t .events) (t .horizon) (now times) ⌝ }
-    requires { ⌜ (kept ≤ t .rules) × HoldFrom t (now times) kept ⌝ }
-    ensures { λ _. ⌜ Low (t .events) (t .horizon) (now (times .exit)) ⌝ }
-    ensures { λ r. ⌜ HoldFrom t (now (times .exit)) r ⌝ }
-{
-    let mut last = 0;
-    let mut end = kept;
-    let mut j = 0;
-    while j < end {
-        let from = t.from[j];
-        let to = t.to[j];
-        let bound = t.bound[j];
-        let k = raise(times, t.events, t.horizon, from, to, bound);
-        j += 1;
-        if k == 2 {
-            return t.rules + 1;
-        }
-        if k != 0 {
-            last = j;
-            end = t.rules;
-        }
-    }
-    last
-}
-
-// Raise the times until all rules hold, which the answer 0 says, or one cannot be kept. A schedule takes a round for each point and one more.
+// Raise the times, rule by rule and round after round, until all rules hold, which the answer 0 says, or one cannot be kept. The rules from the answer on hold.
+// A round that raises nothing ends where the rules hold from before. A schedule takes a round for each point and one more.
 fn relax(t: ticket::Ticket, times: &mut [u32; 81]) -> usize
     requires { ⌜ Given t ⌝ }
     requires { ⌜ Low (t .events) (t .horizon) (now times) ⌝ }
@@ -76,13 +48,27 @@ fn relax(t: ticket::Ticket, times: &mut [u32; 81]) -> usize
     let mut kept = t.rules;
     let mut rounds = 42u32;
     while 0 < rounds {
-        kept = round(t, kept, times);
-        if kept == 0 {
+        let mut last = 0;
+        let mut end = kept;
+        let mut j = 0;
+        while j < end {
+            let from = t.from[j];
+            let to = t.to[j];
+            let bound = t.bound[j];
+            let k = raise(times, t.events, t.horizon, from, to, bound);
+            j += 1;
+            if k == 2 {
+                return t.rules + 1;
+            }
+            if k != 0 {
+                last = j;
+                end = t.rules;
+            }
+        }
+        if last == 0 {
             return 0;
         }
-        if t.rules < kept {
-            return kept;
-        }
+        kept = last;
         rounds -= 1;
     }
     kept

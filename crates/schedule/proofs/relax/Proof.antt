@@ -1,47 +1,88 @@
--- `relax` meets its contract. The invariant: the times stay within the horizon, and the rules from `kept` on hold.
+-- `relax` meets its contract. The invariants: the times stay within the horizon and the rules from `kept` on hold; inside, the laws of Rounds.
 use native.Mathlib.Omega.{arith}
-use Prim.Native.Nat.{_≤_}
-use Rattle.schedule.specs.Schedule.{Low}
-use Rattle.schedule.specs.Relax.{HoldFrom}
 use borrow.Author.Needs.{needs}
+use Prim.Native.Nat.{ℕ, _+_, _-_, _≤_, _<_}
+use Rattle.demands.specs.Rules.{given-small, given-bound}
+use Rattle.schedule.specs.Schedule.{Low}
+use Rattle.schedule.specs.Relax.{HoldFrom, Rounds, rounds-start, rounds-held, rounds-raised, rounds-done}
 use Rattle.schedule.proofs.relax.Statement.{statement}
 use Rattle.schedule.proofs.relax.Tie as tie
 
+abbrev Inv-loop2 : tie.InvT-loop2
+Inv-loop2 times₀ t kept rounds last₀ end₀ j₀ times last end j = Rounds t kept times last end j
+
+abbrev μ-loop2 : tie.MeasureT-loop2
+μ-loop2 times₀ t kept rounds last₀ end₀ j₀ times last end j = t .rules - j
+
 abbrev Inv-loop : tie.InvT-loop
-Inv-loop t times₀ kept₀ rounds₀ times kept rounds = Low (t .events) (t .horizon) times × (kept ≤ t .rules) × HoldFrom t times kept
+Inv-loop times₀ t kept₀ rounds₀ times kept rounds = Low (t .events) (t .horizon) times × (kept ≤ t .rules) × HoldFrom t times kept
 
 abbrev μ-loop : tie.MeasureT-loop
-μ-loop t times₀ kept₀ rounds₀ times kept rounds = rounds
+μ-loop times₀ t kept₀ rounds₀ times kept rounds = rounds
 
-loop-holds : tie.Need-loop-holds Inv-loop μ-loop
+loop-holds : tie.Need-loop-holds Inv-loop2 μ-loop2 Inv-loop μ-loop
 loop-holds c = (c .pre .1, omega arith, λ i lo hi. absurd (omega arith))
 
-round-requires : tie.Need-round-requires Inv-loop μ-loop
-round-requires c κs =
-    let l = c .before .before .loop .inv in
-    (c .before .before .before .pre .0, (l .0, (l .1, l .2)))
+loop2-holds : tie.Need-loop2-holds Inv-loop2 μ-loop2 Inv-loop μ-loop
+loop2-holds c = let l = c .before .loop .inv in rounds-start (l .0) (l .1) (l .2)
 
-returns : tie.Need-returns Inv-loop μ-loop
-returns c = (c .before .round .ensures .0, rw (c .if1 .taken) at (c .before .round .ensures .1))
+raise-requires : tie.Need-raise-requires Inv-loop2 μ-loop2 Inv-loop μ-loop
+raise-requires c κs =
+    let G = c .before .before .before .before .before .before .before .before .pre .0 in
+    let j = c .before .before .before .before .before .loop2 .j in
+    let lj : j < c .before .before .before .before .before .before .before .before .args .t1 .rules = omega (arith, c .before .before .before .before .before .loop2 .inv .few) in
+    (c .before .before .before .before .before .loop2 .inv .low, (rw (given-bound G j lj) (given-small G j lj), (G .few, G .top)))
 
-returns-2 : tie.Need-returns-2 Inv-loop μ-loop
-returns-2 c = c .before .before .before .round .ensures
+returns : tie.Need-returns Inv-loop2 μ-loop2 Inv-loop μ-loop
+returns c =
+    let t = c .before .before .before .before .before .before .before .before .before .before .args .t1 in
+    (c .before .raise .ensures .0, λ (i : ℕ) (lo : t .rules + 1 ≤ i) (hi : i < t .rules). absurd (omega arith))
 
-loop-again : tie.Need-loop-again Inv-loop μ-loop
-loop-again c = (c .before .before .before .round .ensures .0, omega arith, c .before .before .before .round .ensures .1)
+loop2-again : tie.Need-loop2-again Inv-loop2 μ-loop2 Inv-loop μ-loop
+loop2-again c = rounds-raised (c .before .before .before .before .before .before .before .before .loop2 .inv) (omega arith) (c .before .before .raise .ensures .0)
 
-returns-3 : tie.Need-returns-3 Inv-loop μ-loop
+loop2-again-2 : tie.Need-loop2-again-2 Inv-loop2 μ-loop2 Inv-loop μ-loop
+loop2-again-2 c =
+    let G = c .before .before .before .before .before .before .before .before .before .before .before .pre .0 in
+    let j = c .before .before .before .before .before .before .before .before .loop2 .j in
+    let lj : j < c .before .before .before .before .before .before .before .before .before .before .before .args .t1 .rules = omega (arith, c .before .before .before .before .before .before .before .before .loop2 .inv .few) in
+    rounds-held (c .before .before .before .before .before .before .before .before .loop2 .inv) (omega arith) (rw (given-bound G j lj) at (c .before .before .raise .ensures .1)) (c .if2 .left)
+
+returns-2 : tie.Need-returns-2 Inv-loop2 μ-loop2 Inv-loop μ-loop
+returns-2 c =
+    let R = c .before .before .loop2 .inv in
+    (R .low, rw (c .if3 .taken) at (rounds-done R (omega arith)))
+
+loop-again : tie.Need-loop-again Inv-loop2 μ-loop2 Inv-loop μ-loop
+loop-again c =
+    let R = c .before .before .loop2 .inv in
+    (R .low, omega (arith, R .least, R .within, R .few), rounds-done R (omega arith))
+
+returns-3 : tie.Need-returns-3 Inv-loop2 μ-loop2 Inv-loop μ-loop
 returns-3 c = (c .before .loop .inv .0, c .before .loop .inv .2)
 
 pub relax-spec : {M : Type 1} → statement M
 relax-spec =
     tie.close
     (tie.spec
+    Inv-loop2
+    μ-loop2
     Inv-loop
     μ-loop
     loop-holds
-    round-requires
+    loop2-holds
+    (λ c. search needs)
+    (λ c. search needs)
+    (λ c. search needs)
+    (λ c. search needs)
+    raise-requires
+    (λ c. search needs)
+    (λ c. search needs)
     returns
+    (λ c. search needs)
+    loop2-again
+    (λ c. search needs)
+    loop2-again-2
     returns-2
     (λ c. search needs)
     (λ c. search needs)
