@@ -11,7 +11,7 @@ ghost use Rattle.network.specs.Edges.{Extends, Put};
 ghost use Rattle.potentials.specs.Arrays.{Given};
 ghost use Rattle.potentials.specs.Nodes.{closeNode};
 ghost use Rattle.demands.specs.Rules.{Small, Tests, Obeyed};
-ghost use Rattle.demands.specs.Network.{Order, Ruled, Built, Limits};
+ghost use Rattle.demands.specs.Network.{Order, Built, Limits};
 use network::BIAS;
 
 // A point's number as an index.
@@ -100,24 +100,6 @@ fn put_rule(net: &mut [u32], e: usize, n: usize, from: u8, to: u8, bound: i32)
     network::put(net, e, wide(from), head, cost(bound));
 }
 
-// Store all rules.
-fn put_rules(net: &mut [u32], t: ticket::Ticket)
-    requires { ⌜ Given t ⌝ }
-    requires { ⌜ 20 * t .events + 4 * t .rules ≤ length (now net) ⌝ }
-    ensures { λ _. ⌜ Extends (now (net .entry)) (now (net .exit)) (5 * t .events) ⌝ }
-    ensures { λ _. ⌜ Ruled (now (net .exit)) t (t .events) (5 * t .events) (t .rules) ⌝ }
-{
-    let base = 5 * t.events;
-    let mut j = 0;
-    while j < t.rules {
-        let from = t.from[j];
-        let to = t.to[j];
-        let bound = t.bound[j];
-        put_rule(net, base + j, t.events, from, to, bound);
-        j += 1;
-    }
-}
-
 // Store the window network: the boxes of all opens and closes, their order, and the rules.
 pub fn build(net: &mut [u32], t: ticket::Ticket, low: &[u32; 81], high: &[u32; 81])
     requires { ⌜ Given t ⌝ }
@@ -129,5 +111,12 @@ pub fn build(net: &mut [u32], t: ticket::Ticket, low: &[u32; 81], high: &[u32; 8
     let n = t.events;
     network::boxes(net, 2 * n, low, high);
     order(net, n);
-    put_rules(net, t);
+    let mut j = 0;
+    while j < t.rules {
+        let from = t.from[j];
+        let to = t.to[j];
+        let bound = t.bound[j];
+        put_rule(net, 5 * n + j, n, from, to, bound);
+        j += 1;
+    }
 }

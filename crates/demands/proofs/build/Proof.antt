@@ -1,29 +1,74 @@
--- `build` meets its contract, by those of its parts.
+-- `build` meets its contract, by those of its parts. The invariant: the rules below j are stored.
 use native.Mathlib.Omega.{arith}
 use borrow.Author.Needs.{needs}
+use borrow.Author.Count.{below-none}
+use Prim.Native.Nat.{ℕ, _*_, _-_, _≤_, _<_}
 use mathlib.Core.Path.{_∙_}
-use Rattle.demands.specs.Network.{built-by}
+use Rattle.network.specs.Edges.{Extends, extends-none, extends-trans}
+use Rattle.demands.specs.Rules.{given-small, given-bound}
+use Rattle.demands.specs.Network.{Ruled, ruled-more, built-by}
 use Rattle.demands.proofs.build.Statement.{statement}
 use Rattle.demands.proofs.build.Tie as tie
 
-boxes-requires : tie.Need-boxes-requires
+abbrev Inv-loop : tie.InvT-loop
+Inv-loop net₀ low high t n j₀ net j = (j ≤ t .rules) × Extends net₀ net (5 * t .events) × Ruled net t (t .events) (5 * t .events) j
+
+abbrev μ-loop : tie.MeasureT-loop
+μ-loop net₀ low high t n j₀ net j = t .rules - j
+
+boxes-requires : tie.Need-boxes-requires Inv-loop μ-loop
 boxes-requires c κs = ((omega (arith, c .before .before .pre .0 .few), omega (arith, c .before .before .pre .1 .0)), c .before .before .pre .1 .1)
 
-returns : tie.Need-returns
+loop-holds : tie.Need-loop-holds Inv-loop μ-loop
+loop-holds c = (omega arith, extends-none _ _, below-none _)
+
+put-rule-requires : tie.Need-put-rule-requires Inv-loop μ-loop
+put-rule-requires c κs =
+    let G = c .before .before .before .before .before .before .before .before .before .before .before .before .before .before .before .pre .0 in
+    let j = c .before .before .before .before .before .loop .j in
+    let lj : j < c .before .before .before .before .before .before .before .before .before .before .before .before .before .before .before .args .t2 .rules = omega arith in
+    (rw (given-bound G j lj) (given-small G j lj), (G .few, omega (arith, c .before .before .before .before .before .loop .inv .1 .long, c .before .before .before .before .before .before .before .before .order .ensures .0 .long, c .before .before .before .before .before .before .before .before .before .before .before .before .boxes .ensures .0, c .before .before .before .before .before .before .before .before .before .before .before .before .before .before .before .pre .1 .0)))
+
+loop-again : tie.Need-loop-again Inv-loop μ-loop
+loop-again c =
+    let G = c .before .before .before .before .before .before .before .before .before .before .before .before .before .before .before .before .before .before .pre .0 in
+    let t = c .before .before .before .before .before .before .before .before .before .before .before .before .before .before .before .before .before .before .args .t2 in
+    let j = c .before .before .before .before .before .before .before .before .loop .j in
+    let lj : j < t .rules = omega arith in
+    let h = c .before .before .before .before .before .before .before .before .loop .inv in
+    let p = rw (given-bound G j lj) at (c .before .before .put-rule .ensures) in
+    (omega arith, extends-trans (omega arith) (h .1) (p .extends), ruled-more t (t .events) (5 * t .events) j (h .2) p)
+
+same-length : tie.Need-same-length Inv-loop μ-loop
+same-length c = c .before .loop .inv .1 .long ∙ c .before .before .before .before .order .ensures .0 .long ∙ c .before .before .before .before .before .before .before .before .boxes .ensures .0
+
+returns : tie.Need-returns Inv-loop μ-loop
 returns c =
-    let b = c .before .before .before .before .before .before .before .before .before .before .boxes .ensures in
-    let o = c .before .before .before .before .before .before .order .ensures in
-    let r = c .before .before .put-rules .ensures in
-    let long = r .0 .long ∙ o .0 .long ∙ b .0 in
-    (built-by (omega (arith, long, c .before .before .before .before .before .before .before .before .before .before .before .before .before .pre .1 .0)) (b .1 .0) (o .0) (o .1) (r .0) (r .1), long)
+    let l = c .before .loop .inv in
+    let o = c .before .before .before .before .order .ensures in
+    let x = c .before .before .before .before .before .before .before .before .boxes .ensures in
+    let long = l .1 .long ∙ o .0 .long ∙ x .0 in
+    (built-by (omega (arith, long, c .before .before .before .before .before .before .before .before .before .before .before .pre .1 .0)) (x .1 .0) (o .0) (o .1) (l .1) (λ (i : ℕ) (li : i < c .before .before .before .before .before .before .before .before .before .before .before .args .t2 .rules). l .2 i (omega arith)), long)
 
 pub build-spec : {M : Type 1} → statement M
 build-spec =
     tie.close
     (tie.spec
+    Inv-loop
+    μ-loop
     (λ c. search needs)
     boxes-requires
     (λ c κs. search needs)
-    (λ c κs. search needs)
+    loop-holds
     (λ c. search needs)
+    (λ c. search needs)
+    (λ c. search needs)
+    (λ c. search needs)
+    (λ c. search needs)
+    (λ c. search needs)
+    put-rule-requires
+    (λ c. search needs)
+    (λ c. search needs)
+    loop-again
+    same-length
     returns)
