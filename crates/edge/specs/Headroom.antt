@@ -13,24 +13,36 @@ use Rattle.network.specs.Index.{endOf, end-tail, Last, box-edge, ListedFrom, Un
 abbrev pub Room : List ℕ → List ℕ → ℕ → ℕ → Type 0
 Room net pot r e = at pot (headOf net e) + 1000000 + r ≤ at pot 0 + costOf net e
 
--- all nodes but the origin can rise by r; an edge from the origin to itself counts like the others
+-- all nodes but the origin can rise by r: edges between them keep their slack; an edge from the origin to itself counts like the others
+abbrev pub Rise : List ℕ → ℕ → List ℕ → ℕ → Type 0
+Rise net m pot r = (e : ℕ) → e < m → tailOf net e ≡ 0 → Room net pot r e
+
+-- r is the most, up to 1000000, by which all nodes but the origin can rise
 pub record Headroom (net : List ℕ) (m : ℕ) (pot : List ℕ) (r : ℕ) : Type 0 where
   pub small : r ≤ 1000000
-  pub fits : (e : ℕ) → e < m → tailOf net e ≡ 0 → Room net pot r e
+  pub fits : Rise net m pot r
+  pub most : (s : ℕ) → s ≤ 1000000 → Rise net m pot s → s ≤ r
 
 -- the boxes of the nodes below v let them rise by r
+abbrev pub BoxRise : List ℕ → List ℕ → ℕ → ℕ → Type 0
+BoxRise net pot v r = (u : ℕ) → 0 < u → u < v → Room net pot r (2 * u - 1)
+
+-- r is the most, up to 1000000, by which the boxes of the nodes below v let them rise
 pub record BoxRoom (net pot : List ℕ) (v r : ℕ) : Type 0 where
   pub small : r ≤ 1000000
-  pub fits : (u : ℕ) → 0 < u → u < v → Room net pot r (2 * u - 1)
+  pub fits : BoxRise net pot v r
+  pub most : (s : ℕ) → s ≤ 1000000 → BoxRise net pot v s → s ≤ r
 
 pub box-room-none : (net pot : List ℕ) → BoxRoom net pot 1 1000000
-box-room-none net pot = record { small = omega arith; fits = λ u p l. absurd (omega arith) }
+box-room-none net pot = record { small = omega arith; fits = λ u p l. absurd (omega arith); most = λ s l a. l }
 
--- besides, the edges of the origin's list from x on do
+-- r is the most that the boxes and the edges of the origin's list passed so far allow; those left in the list start at x
 pub record Rooms (net : List ℕ) (m nodes : ℕ) (pot : List ℕ) (x r : ℕ) : Type 0 where
   pub next : Unlisted net m (2 * nodes - 2) 0 0 x
-  pub boxes : BoxRoom net pot nodes r
+  pub small : r ≤ 1000000
+  pub boxes : BoxRise net pot nodes r
   pub listed : (e : ℕ) → e < m → ListedFrom net (2 * nodes - 2) 0 0 x e → Room net pot r e
+  pub most : (s : ℕ) → s ≤ 1000000 → Rise net m pot s → s ≤ r
 
 module _ {net : List ℕ} {m nodes : ℕ} {pot : List ℕ} (N : Network net m nodes) (P : Potential net m pot) where
   -- the slack of an edge from the origin
@@ -49,14 +61,17 @@ module _ {net : List ℕ} {m nodes : ℕ} {pot : List ℕ} (N : Network net m no
             (λ (q : u ≡ v). rw q (omega (arith, box-slack v p lv .1)))
             (λ (l : u < v). omega (arith, B .fits u pu l))
             (eq-or-lt-of-le (omega arith));
+        most = λ s l a. omega (arith, B .most s l (λ u pu lu. a u pu (omega arith)), a v p (omega arith), P .origin);
       }
 
   pub rooms-start : {x r : ℕ} → BoxRoom net pot nodes r → Last net (2 * nodes - 2) 0 0 m x → Rooms net m nodes pot x r
   rooms-start B L =
       record {
         next = record { below = L .below; hit = L .hit };
-        boxes = B;
+        small = B .small;
+        boxes = B .fits;
         listed = λ e le h. absurd (L .none e (h .0) (h .1) le (h .2));
+        most = λ s l a. B .most s l (λ u pu lu. a (2 * u - 1) (box-slack u pu lu .0) (N .up u lu pu .0));
       }
 
   -- where the next edge of the list stands, and its slack
@@ -70,22 +85,26 @@ module _ {net : List ℕ} {m nodes : ℕ} {pot : List ℕ} (N : Network net m no
   pub rooms-more : {x y r : ℕ} → Rooms net m nodes pot x r → 0 < x → Last net (2 * nodes - 2) 0 (endOf net 0 (x - 1)) (x - 1) y
       → Rooms net m nodes pot y (min r (costOf net (x - 1) - 1000000 - at pot (headOf net (x - 1))))
   rooms-more {x} {y} {r} R px L =
+      let edge = rooms-edge R px in
       record {
         next = list-next (R .next) px L;
-        boxes = record { small = omega (arith, R .boxes .small); fits = λ u pu lu. omega (arith, R .boxes .fits u pu lu) };
+        small = omega (arith, R .small);
+        boxes = λ u pu lu. omega (arith, R .boxes u pu lu);
         listed = λ e le h.
             list-cover (Room net pot (min r (costOf net (x - 1) - 1000000 - at pot (headOf net (x - 1))))) px L (R .next .hit px .1)
-            (omega (arith, rooms-edge R px .3)) e h (λ old. omega (arith, R .listed e le old));
+            (omega (arith, edge .3)) e h (λ old. omega (arith, R .listed e le old));
+        most = λ s l a. omega (arith, R .most s l a, a (x - 1) (edge .0) (sym (end-tail net (x - 1)) ∙ R .next .hit px .1), P .origin);
       }
 
   -- all edges from the origin
   pub rooms-all : {r : ℕ} → Rooms net m nodes pot 0 r → Headroom net m pot r
   rooms-all {r} R =
       record {
-        small = R .boxes .small;
+        small = R .small;
         fits = λ e le q. by-cases (decLt e (2 * nodes - 2))
             (λ l. boxed e q l)
             (λ n. R .listed e le (omega arith, omega arith, end-tail net e ∙ q));
+        most = R .most;
       }
     where
       boxed : (e : ℕ) → tailOf net e ≡ 0 → e < 2 * nodes - 2 → Room net pot r e
@@ -97,7 +116,7 @@ module _ {net : List ℕ} {m nodes : ℕ} {pot : List ℕ} (N : Network net m no
           (λ (h : (tailOf net e ≡ 0) × (headOf net e ≡ x .0)).
           let place = x .2 .place in
           by-cases (ℕ-discrete e (2 * v - 1))
-          (λ z. rw z (R .boxes .fits v (x .2 .node) (x .1)))
+          (λ z. rw z (R .boxes v (x .2 .node) (x .1)))
           (λ z.
           let low : e ≡ 2 * v - 2 = omega arith in
           absurd (omega (arith, x .2 .node, ap (tailOf net) low, N .down v (x .1) (x .2 .node) .0))))

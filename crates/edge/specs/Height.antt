@@ -9,18 +9,24 @@ use Rattle.network.specs.Stored.{at, tailOf, headOf, costOf, Network, Potential
 use Rattle.network.specs.Index.{endOf, Last, box-edge, ListedFrom, Unlisted, list-cover}
 use Rattle.edge.specs.Limit.{list-edge}
 
--- node v can be at x: no lower than it is, and the demands of all edges into it hold
+-- with node v at x the demands of all edges into it hold; the tail of an edge from v to itself stays where it is, like the others
+abbrev pub Under : List ℕ → ℕ → List ℕ → ℕ → ℕ → Type 0
+Under net m pot v x = (e : ℕ) → e < m → headOf net e ≡ v → x + 1000000 ≤ at pot (tailOf net e) + costOf net e
+
+-- x is the highest that node v can be: no lower than it is, and at no y above x do the demands of all edges into it hold
 pub record Height (net : List ℕ) (m : ℕ) (pot : List ℕ) (v x : ℕ) : Type 0 where
   pub up : at pot v ≤ x
-  pub fits : (e : ℕ) → e < m → headOf net e ≡ v → x + 1000000 ≤ at pot (tailOf net e) + costOf net e
+  pub fits : Under net m pot v x
+  pub most : (y : ℕ) → Under net m pot v y → y ≤ x
 
--- best is at most what the box edge into v and the edges of v's list from x on allow, and v is no higher
+-- best is the most that the box edge into v and the edges of v's list passed so far allow, and v is no higher; those left in the list start at x
 pub record Below (net : List ℕ) (m nodes : ℕ) (pot : List ℕ) (v x best : ℕ) : Type 0 where
   pub next : Unlisted net m (2 * nodes - 2) 1 v x
   pub high : at pot v + 1000000 ≤ best
   pub small : best ≤ 3000000
   pub box : best ≤ at pot (tailOf net (2 * v - 1)) + costOf net (2 * v - 1)
   pub listed : (e : ℕ) → e < m → ListedFrom net (2 * nodes - 2) 1 v x e → best ≤ at pot (tailOf net e) + costOf net e
+  pub most : (y : ℕ) → Under net m pot v y → y + 1000000 ≤ best
 
 module _ {net : List ℕ} {m nodes : ℕ} {pot : List ℕ} {v : ℕ} (N : Network net m nodes) (P : Potential net m pot) (p : 0 < v) (lv : v < nodes) where
   pub up-edge : 2 * v - 1 < m
@@ -35,6 +41,7 @@ module _ {net : List ℕ} {m nodes : ℕ} {pot : List ℕ} {v : ℕ} (N : Networ
         small = omega (arith, P .origin, ap (at pot) (u .0), N .costs (2 * v - 1) up-edge);
         box = omega arith;
         listed = λ e le h. absurd (L .none e (h .0) (h .1) le (h .2));
+        most = λ y a. a (2 * v - 1) up-edge (u .1);
       }
 
   -- where the next edge of the list stands
@@ -55,6 +62,7 @@ module _ {net : List ℕ} {m nodes : ℕ} {pot : List ℕ} {v : ℕ} (N : Networ
         listed = λ e le h.
             list-cover (λ k. min best (at pot (tailOf net (x - 1)) + costOf net (x - 1)) ≤ at pot (tailOf net k) + costOf net k) px L (hit .1) (omega arith) e h
             (λ old. omega (arith, B .listed e le old));
+        most = λ y a. omega (arith, B .most y a, a (x - 1) lx (hit .1));
       }
 
   -- all edges into v
@@ -65,6 +73,7 @@ module _ {net : List ℕ} {m nodes : ℕ} {pot : List ℕ} {v : ℕ} (N : Networ
         fits = λ e le q. by-cases (decLt e (2 * nodes - 2))
             (λ l. omega (arith, B .high, boxed e q l))
             (λ n. omega (arith, B .high, B .listed e le (omega arith, omega arith, q)));
+        most = λ y a. omega (arith, B .most y a);
       }
     where
       boxed : (e : ℕ) → headOf net e ≡ v → e < 2 * nodes - 2 → best ≤ at pot (tailOf net e) + costOf net e

@@ -8,6 +8,7 @@ ghost use lib.ListN.{length};
 ghost use Rattle.network.specs.Stored.{at, Beyond, flowOf, Network, Potential};
 ghost use Rattle.network.specs.Index.{Index};
 ghost use Rattle.warm.specs.Center.{Shifted};
+ghost use Rattle.warm.specs.Highest.{Highest};
 
 // Raise each hi node as far as it can: no flow runs yet.
 fn rise(net: &[u32], m: usize, n: usize, heads: &[u32; 400], pot: &mut [u32; 81])
@@ -59,9 +60,10 @@ fn shift(pot: &mut [u32; 81], nodes: usize, h: u32)
     }
 }
 
-// The highest time of the nodes 1 to n. Nothing is promised: only how fast a search is depends on it.
+// The highest time of the nodes 1 to n, 0 if there are none.
 fn highest(pot: &[u32; 81], n: usize) -> u32
     requires { ⌜ n < 81 ⌝ }
+    ensures { λ r. ⌜ Highest (now (pot .entry)) n r ⌝ }
 {
     let mut top = 0;
     let mut i = 1;
