@@ -73,6 +73,15 @@ module _ {net : List ℕ} {m nodes : ℕ} {pot : List ℕ} {v : ℕ} (N : Networ
         least = λ y a. omega (arith, A .least y a, asked (x - 1) y lx out a);
       }
 
+  -- an edge out of v with no slack: v can be no lower than it is
+  pub no-lower : (e : ℕ) → e < m → endOf net 0 e ≡ v → needOf net pot e ≡ at pot v + 1000000 → Depth net m pot v (at pot v)
+  no-lower e le q z =
+      record {
+        down = omega arith;
+        fits = λ d ld h. omega (arith, P .feasible d ld, ap (at pot) h);
+        least = λ y a. omega (arith, asked e y le (sym (end-tail net e) ∙ q) a, z);
+      }
+
   -- all edges out of v
   pub above-depth : {best : ℕ} → Above net m nodes pot v 0 best → Depth net m pot v (best - 1000000)
   above-depth {best} A =

@@ -65,6 +65,15 @@ module _ {net : List ℕ} {m nodes : ℕ} {pot : List ℕ} {v : ℕ} (N : Networ
         most = λ y a. omega (arith, B .most y a, a (x - 1) lx (hit .1));
       }
 
+  -- an edge into v with no slack: v can be no higher than it is
+  pub no-higher : (e : ℕ) → e < m → headOf net e ≡ v → at pot (tailOf net e) + costOf net e ≡ at pot v + 1000000 → Height net m pot v (at pot v)
+  no-higher e le q z =
+      record {
+        up = omega arith;
+        fits = λ d ld h. omega (arith, P .feasible d ld, ap (at pot) h);
+        most = λ y a. omega (arith, a e le q, z);
+      }
+
   -- all edges into v
   pub below-height : {best : ℕ} → Below net m nodes pot v 0 best → Height net m pot v (best - 1000000)
   below-height {best} B =

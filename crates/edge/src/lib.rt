@@ -37,11 +37,17 @@ pub fn height(
     ensures { λ r. ⌜ Height (now (net .entry)) m (now (pot .entry)) v r ⌝ }
 {
     let base = 2 * nodes - 2;
+    let stands = pot[v];
     let mut best = limit(net, pot, 2 * v - 1);
     let mut x = heads[v] as usize;
     while 0 < x {
         let e = x - 1;
-        best = network::least(best, limit(net, pot, e));
+        let most = limit(net, pot, e);
+        // an edge with no slack: no other allows less
+        if most == stands + BIAS {
+            return stands;
+        }
+        best = network::least(best, most);
         x = heads[81 + (e - base)] as usize;
     }
     best - BIAS
@@ -73,11 +79,17 @@ pub fn depth(
     ensures { λ r. ⌜ Depth (now (net .entry)) m (now (pot .entry)) v r ⌝ }
 {
     let base = 2 * nodes - 2;
+    let stands = pot[v];
     let mut best = need(net, pot, 2 * v - 2);
     let mut x = tails[v] as usize;
     while 0 < x {
         let e = x - 1;
-        best = network::most(best, need(net, pot, e));
+        let least = need(net, pot, e);
+        // an edge with no slack: no other asks more
+        if least == stands + BIAS {
+            return stands;
+        }
+        best = network::most(best, least);
         x = tails[81 + (e - base)] as usize;
     }
     best - BIAS
