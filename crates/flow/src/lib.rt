@@ -178,8 +178,7 @@ pub fn solve(net: &mut [u32], m: usize, n: usize, pot: &mut [u32; 81], weight: &
     let base = 2 * nodes - 2;
     let mut tails = [0u32; 400];
     let mut heads = [0u32; 400];
-    network::list_edges(net, m, base, 0, &mut tails);
-    network::list_edges(net, m, base, 1, &mut heads);
+    network::list_edges(net, m, base, &mut tails, &mut heads);
     warm::widen(net, m, n, &tails, &heads, pot);
     send(net, m, n, &tails, &heads, pot, weight);
     lower(net, m, nodes, &tails, &heads, pot);
