@@ -80,7 +80,7 @@ module _ {net : List ℕ} {m nodes : ℕ} {pot stamp via dist order key : List �
       }
 
   -- Each turn, no node that is reached has a goal.
-  module _ {g : ℕ} (G : Goals order goal seen t g) (l : t ≤ g) (more : s < nodes) where
+  module _ {g : ℕ} (G : Goals order goal seen t g) (l : t ≤ g) (more : seen < nodes) where
     -- a node that waits is scanned
     module _ (ne : s ≡ t → ⊥) where
       pub scan-asks : s < t
@@ -105,7 +105,7 @@ module _ {net : List ℕ} {m nodes : ℕ} {pot stamp via dist order key : List �
     module _ (same : s ≡ t) {w : ℕ} (h : Nearest key w) where
       pub near-asks : (w < 81) × (t < 81)
       near-asks =
-          let o = nearest-out (S .search) (omega (arith, counts)) (omega arith) more w h in
+          let o = nearest-out (S .search) (omega (arith, counts)) (omega arith) (omega (arith, S .scanned)) w h in
           (omega (arith, o .0, S .search .network .few), omega (arith, S .search .network .few))
 
       pub searching-near : {stamp' order' key' : List ℕ} → (stamp' ≡ set stamp w (t + 1)) × (order' ≡ set order t w) × (key' ≡ set key w 8000000)
@@ -114,7 +114,7 @@ module _ {net : List ℕ} {m nodes : ℕ} {pot stamp via dist order key : List �
           let A = searching-all G l in
           rw (q .0, q .1, q .2)
           (record {
-            search = search-nearest (S .search) (omega (arith, counts)) (omega arith) more w h;
+            search = search-nearest (S .search) (omega (arith, counts)) (omega arith) (omega (arith, S .scanned)) w h;
             scanned = S .search .scanned;
             reached = omega arith;
             none = λ k lk. ap (at goal) (getD-set-other order t k w 0 (omega arith)) ∙ A .none k lk;
@@ -131,13 +131,13 @@ module _ {net : List ℕ} {m nodes : ℕ} {pot stamp via dist order key : List �
         outcome = λ pot' long mv. search-reached (S .search) pot' long mv goal (at order g) (λ _. (omega (arith, q .1), G .found l)) (λ le. absurd (omega (arith, q .0)));
       }
 
-  pub explored-all : nodes ≤ s → Explored net m nodes pot stamp via dist root goal nodes d
+  pub explored-all : nodes ≤ seen → Explored net m nodes pot stamp via dist root goal nodes d
   explored-all le =
       record {
         room = search-room (S .search);
         outcome = λ pot' long mv. search-reached (S .search) pot' long mv goal nodes (λ l. absurd (omega arith))
             (λ _. (
-              omega (arith, S .scanned, S .reached),
+              omega (arith, S .reached),
               λ v lv p.
                   let h = S .search .place v lv p in
                   ap (at goal) (sym (h .1)) ∙ S .none (at stamp v - 1) (omega (arith, h .0, counts, S .scanned)),

@@ -88,7 +88,8 @@ struct Found {
     dist: u32,
 }
 
-// Search from root until a node with a goal above 0 is reached, or until all are scanned. The result is that node, or nodes, and the distance it came to.
+// Search from root until a node with a goal above 0 is reached, or all are reached and none has a goal. Nodes that are not scanned by then are as far as any:
+// no edge at them leads nearer. The result is that node, or nodes, and the distance it came to.
 fn explore(
     net: &[u32],
     m: usize,
@@ -117,7 +118,7 @@ fn explore(
     let mut seen = 0;
     let mut s = 0;
     let mut d = 0;
-    while s < nodes {
+    while seen < nodes {
         let g = last_goal(&order, goal, seen, t);
         if g < t {
             return Found {
