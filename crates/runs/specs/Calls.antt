@@ -64,14 +64,21 @@ afterReading out scratch decide (Out.refused cause) = refusing (number cause) ou
 
 -- ---- the two calls: 10 is tested first, then the bytes are read, to their end, then it is decided
 
+-- where there is room
+abbrev pub planRead : (ticket out scratch : List ℕ) → Outcome
+planRead ticket out scratch =
+    afterReading out scratch plan (wholly readTicket ticket)
+
+abbrev pub commitRead : (bytes : List ℕ) (event opens closes : ℕ) (out scratch : List ℕ) → Outcome
+commitRead bytes event opens closes out scratch =
+    afterReading out scratch (λ (s : State). commit s (asking event opens closes)) (wholly readState bytes)
+
 unfoldable pub planning : (ticket out scratch : List ℕ) → Outcome
-planning ticket out scratch = cond (room out scratch) (afterReading out scratch plan (wholly readTicket ticket)) (withoutRoom out scratch)
+planning ticket out scratch = cond (room out scratch) (planRead ticket out scratch) (withoutRoom out scratch)
 
 unfoldable pub committing : (bytes : List ℕ) (event opens closes : ℕ) (out scratch : List ℕ) → Outcome
 committing bytes event opens closes out scratch =
-    cond (room out scratch)
-    (afterReading out scratch (λ (s : State). commit s (asking event opens closes)) (wholly readState bytes))
-    (withoutRoom out scratch)
+    cond (room out scratch) (commitRead bytes event opens closes out scratch) (withoutRoom out scratch)
 
 -- ---- the same by cases
 
@@ -92,7 +99,7 @@ module _ (ticket out scratch : List ℕ) where
   unfolding planning
   planning-short e = rw e
 
-  pub planning-read : room out scratch ≡ true → planning ticket out scratch ≡ afterReading out scratch plan (wholly readTicket ticket)
+  pub planning-read : room out scratch ≡ true → planning ticket out scratch ≡ planRead ticket out scratch
   unfolding planning
   planning-read e = rw e
 
@@ -101,7 +108,6 @@ module _ (bytes : List ℕ) (event opens closes : ℕ) (out scratch : List ℕ) 
   unfolding committing
   committing-short e = rw e
 
-  pub committing-read : room out scratch ≡ true
-      → committing bytes event opens closes out scratch ≡ afterReading out scratch (λ (s : State). commit s (asking event opens closes)) (wholly readState bytes)
+  pub committing-read : room out scratch ≡ true → committing bytes event opens closes out scratch ≡ commitRead bytes event opens closes out scratch
   unfolding committing
   committing-read e = rw e

@@ -1,15 +1,17 @@
--- The examples P1 to P10 of 01 on bytes, as one table: a call, and what it returns and leaves, whatever output and scratch of sufficient length it is lent.
--- The decisions are rows of `temporal`'s table; here the bytes are read and written. The table of distances in P1 is a row of `temporal`'s.
+-- The examples P1 to P10 of 01 as one table: a call, and what it answers and leaves, whatever output and scratch of sufficient length it is lent.
+-- What is decided of the tickets and records is `temporal`'s Examples; here the bytes are read and written.
 use mathlib.Core.Path.{_≡_, refl, ap, _∙_}
 use mathlib.Core.Bool.{true}
 use mathlib.Core.List.{List, [], _∷_, _++_}
-use Prim.Native.Nat.{ℕ, _-_}
-use lib.IntN.{pos, negsuc}
-use lib.ListN.{length}
+use Prim.Native.Nat.{ℕ, _-_, _≤_}
+use lib.IntN.{ℤ, pos, negsuc}
+use lib.ListN.{length, drop}
 use Rattle.temporal.specs.Lists.{All}
-use Rattle.temporal.specs.Ticket.{Ticket, weights, weight, total}
+use Rattle.temporal.specs.Ticket.{Rule, Ticket, weights, weight, total}
 use Rattle.temporal.specs.Plan.{State, accepted, refused, plan, commit, asking}
-use Rattle.temporal.specs.Examples.{ticket1, plan1, record3, ticket4, plan4, ticket6, ticket7, ticket8, ticket10, p1, p2, p3, p4, p5, p6, p6-refused, p7, p7-refused, p8, p10}
+use Rattle.temporal.specs.Table.{tableOf}
+use Rattle.temporal.specs.Examples.{minus as negative, ticket1, plan1, record3, ticket4, plan4, ticket6, ticket7, ticket8, ticket10}
+use Rattle.temporal.specs.Examples.{p1, p1-table, p2, p3, p4, p5, p6, p6-refused, p7, p7-refused, p8, p10}
 use Rattle.ticket.specs.Parser.{got, number, little, many, wholly}
 use Rattle.ticket.specs.Format.{readTicket, readOwner, readRule, readState, readWindow}
 use Rattle.ticket.specs.Writer.{bytes, each, entries, writeRule, writeTicket, writeWindow, writeState}
@@ -19,6 +21,7 @@ use Rattle.runs.specs.Calls.{Outcome, room, cleared, refusing, answered,
 -- ---- how an example is written
 
 pub data Call : Type 0 where
+  tables : (horizon events : ℕ) (rules : List Rule) → Call
   plans : (ticket : List ℕ) → Call
   commits : (given : List ℕ) (event opens closes : ℕ) → Call
 
@@ -27,25 +30,34 @@ pub data Reply : Type 0 where
   refuses : ℕ → Reply
   writes : (written : List ℕ) (total : ℕ) → Reply
 
-abbrev pub outcome : Call → List ℕ → List ℕ → Outcome
-outcome (plans ticket) out scratch = planning ticket out scratch
-outcome (commits given event opens closes) out scratch = committing given event opens closes out scratch
+-- what is said of a call: of the table its rows, one after the other
+abbrev pub Said : Call → Type 0
+Said (tables horizon events rules) = List ℤ
+Said (plans ticket) = Reply
+Said (commits given event opens closes) = Reply
 
 abbrev pub expected : Reply → List ℕ → List ℕ → Outcome
 expected (refuses r) out scratch = refusing r out scratch
 expected (writes written t) out scratch = record { number = 0; length = length written; total = t; out = over written out; scratch = cleared scratch }
 
+-- the call answers that: the table to any output of at least 1,681 numbers, 0 and the rows first in it, and beyond them it is as it was
+abbrev pub Answers : (c : Call) → Said c → Type 0
+Answers (tables horizon events rules) rows = (out : List ℤ) → 1681 ≤ length out → tableOf horizon events rules out ≡ (0, rows ++ drop (length rows) out)
+Answers (plans ticket) r = (out scratch : List ℕ) → room out scratch ≡ true → planning ticket out scratch ≡ expected r out scratch
+Answers (commits given event opens closes) r =
+    (out scratch : List ℕ) → room out scratch ≡ true → committing given event opens closes out scratch ≡ expected r out scratch
+
 -- one row: the number of the example in 01, the call, what it answers
 pub record Example : Type 0 where
   pub paper : ℕ
   pub call : Call
-  pub reply : Reply
+  pub said : Said call
 
-abbrev pub example : ℕ → Call → Reply → Example
-example n c r = record { paper = n; call = c; reply = r }
+abbrev pub example : ℕ → (c : Call) → Said c → Example
+example n c r = record { paper = n; call = c; said = r }
 
 abbrev pub Holds : Example → Type 0
-Holds e = (out scratch : List ℕ) → room out scratch ≡ true → outcome (e .call) out scratch ≡ expected (e .reply) out scratch
+Holds e = Answers (e .call) (e .said)
 
 -- ---- the bytes
 
@@ -97,7 +109,9 @@ bytes10 = four 5 ++ (two 2 ++ (3 ∷ 3 ∷ two 0))
 
 abbrev pub examples : List Example
 examples =
-    example 1 (plans bytes1) (writes record1 6)
+    example 1 (tables 20 2 (ticket1 .rules))
+    ((pos 0 ∷ pos 15 ∷ pos 19 ∷ []) ++ ((negative 5 ∷ pos 0 ∷ pos 4 ∷ []) ++ (negative 8 ∷ pos 2 ∷ pos 0 ∷ [])))
+    ∷ example 1 (plans bytes1) (writes record1 6)
     ∷ example 2 (commits record1 1 10 10) (writes (bytes1 ++ (two 2 ++ (window 1 10 10 ++ (window 0 8 14 ++ two 1)))) 6)
     ∷ example 3 (commits (bytes1 ++ (two 2 ++ (window 0 15 15 ++ (window 0 13 19 ++ two 0)))) 2 13 13)
     (writes (bytes1 ++ (two 2 ++ (window 0 9 15 ++ (window 1 13 13 ++ two 1)))) 6)
@@ -158,42 +172,24 @@ read-record4 : wholly readState record4 ≡ got plan4 []
 unfolding readState readWindow readTicket readOwner readRule little many
 read-record4 = refl
 
+infixr 2 _and_
+_and_ : {A B : Type 0} → A → B → A × B
+_and_ a b = (a, b)
+
 pub examples-hold : All Holds examples
 unfolding readTicket readOwner readRule little many number writeState writeTicket writeRule writeWindow entries bytes each weight weights
-examples-hold = (
-  λ out scratch e. plans-writes bytes1 read1 out scratch e record1 6 p1 refl refl,
-  (
-    λ out scratch e. commits-writes record1 read-record1 1 10 10 out scratch e _ 6 p2 refl refl,
-    (
-      λ out scratch e. commits-writes _ read-record3 2 13 13 out scratch e _ 6 p3 refl refl,
-      (
-        λ out scratch e. plans-writes bytes4 read4 out scratch e record4 5 p4 refl refl,
-        (
-          λ out scratch e. commits-writes record4 read-record4 1 2 2 out scratch e _ 2 p5 refl refl,
-          (
-            λ out scratch e. plans-writes (bytes6 1) {k = ticket6 (pos 1)} refl out scratch e _ 0 p6 refl refl,
-            (
-              λ out scratch e. plans-refused (bytes6 0) {k = ticket6 (pos 0)} refl out scratch e p6-refused,
-              (
-                λ out scratch e. plans-writes (bytes7 10) {k = ticket7 (negsuc 9)} refl out scratch e _ 0 p7 refl refl,
-                (
-                  λ out scratch e. plans-refused (bytes7 11) {k = ticket7 (negsuc 10)} refl out scratch e p7-refused,
-                  (
-                    λ out scratch e. plans-writes bytes8 {k = ticket8} refl out scratch e _ 0 p8 refl refl,
-                    (
-                      λ out scratch e. planning-read [] out scratch e,
-                      (
-                        λ out scratch e. plans-writes bytes10 {k = ticket10} refl out scratch e _ 10 p10 refl refl,
-                        tt,
-                      ),
-                    ),
-                  ),
-                ),
-              ),
-            ),
-          ),
-        ),
-      ),
-    ),
-  ),
-)
+examples-hold =
+    p1-table
+    and (λ out scratch e. plans-writes bytes1 read1 out scratch e record1 6 p1 refl refl)
+    and (λ out scratch e. commits-writes record1 read-record1 1 10 10 out scratch e _ 6 p2 refl refl)
+    and (λ out scratch e. commits-writes _ read-record3 2 13 13 out scratch e _ 6 p3 refl refl)
+    and (λ out scratch e. plans-writes bytes4 read4 out scratch e record4 5 p4 refl refl)
+    and (λ out scratch e. commits-writes record4 read-record4 1 2 2 out scratch e _ 2 p5 refl refl)
+    and (λ out scratch e. plans-writes (bytes6 1) {k = ticket6 (pos 1)} refl out scratch e _ 0 p6 refl refl)
+    and (λ out scratch e. plans-refused (bytes6 0) {k = ticket6 (pos 0)} refl out scratch e p6-refused)
+    and (λ out scratch e. plans-writes (bytes7 10) {k = ticket7 (negsuc 9)} refl out scratch e _ 0 p7 refl refl)
+    and (λ out scratch e. plans-refused (bytes7 11) {k = ticket7 (negsuc 10)} refl out scratch e p7-refused)
+    and (λ out scratch e. plans-writes bytes8 {k = ticket8} refl out scratch e _ 0 p8 refl refl)
+    and (λ out scratch e. planning-read [] out scratch e)
+    and (λ out scratch e. plans-writes bytes10 {k = ticket10} refl out scratch e _ 10 p10 refl refl)
+    and tt

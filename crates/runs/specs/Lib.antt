@@ -4,7 +4,7 @@
 --   Calls     planning and commitment as functions of all they are lent: what is returned, what output and scratch hold afterwards
 --   Run       what 01's section "A run" claims, for any start and any list of commitments
 -- The theorem: `run` in RunHolds, of every start and every list. It answers demand 3.
--- Examples shows the definitions at work: P1 to P10 of 01 on bytes as one table (`examples-hold`).
+-- Examples shows the definitions at work: P1 to P10 of 01 as one table, the table of distances in it (`examples-hold`).
 --
 -- That the code is these functions is said by its contracts, in crate `plan`.
 pub mod Calls
