@@ -71,7 +71,9 @@ planRead ticket out scratch =
 
 abbrev pub commitRead : (bytes : List ℕ) (event opens closes : ℕ) (out scratch : List ℕ) → Outcome
 commitRead bytes event opens closes out scratch =
-    afterReading out scratch (λ (s : State). commit s (asking event opens closes)) (wholly readState bytes)
+    afterReading out scratch
+    (λ (s : State). commit s (asking event opens closes))
+    (wholly readState bytes)
 
 unfoldable pub planning : (ticket out scratch : List ℕ) → Outcome
 planning ticket out scratch = cond (room out scratch) (planRead ticket out scratch) (withoutRoom out scratch)
