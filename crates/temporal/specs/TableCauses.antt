@@ -68,7 +68,7 @@ module _ (n : ℕ) where
   neither true b e = absurd (let z : _≡_ {A = ℕ} 0 1 = cc in omega arith)
   neither false b e = (refl, e)
 
-  rule-valid : (r : Rule) → ruleCause n r ≡ 0 → ValidRule n r
+  pub rule-valid : (r : Rule) → ruleCause n r ≡ 0 → ValidRule n r
   unfolding ruleCause
   rule-valid r z =
       let range = ltZ (r .bound) (negsuc 999999) || ltZ (pos 1000000) (r .bound) in
