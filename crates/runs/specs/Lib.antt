@@ -10,4 +10,5 @@
 pub mod Calls
 pub mod Run
 pub mod RunHolds
+pub mod Refusals
 pub mod Examples

@@ -25,7 +25,7 @@ use Rattle.ticket.specs.RoundTrip.{Bytes, read-written-state, read-written, wri
 use Rattle.runs.specs.Calls.{Outcome, room, withoutRoom, accepting, answered, afterReading, planning, planning-short, planning-read, committing-short, committing-read}
 use Rattle.runs.specs.Run.{Call, asks, outcome, written, Holds, Claim, Planned, Unplanned, Start, planned, given, Run}
 
-answered-number : (out scratch : List ℕ) (a : Answer) → answered out scratch a .number ≡ decided a
+pub answered-number : (out scratch : List ℕ) (a : Answer) → answered out scratch a .number ≡ decided a
 answered-number out scratch (Answer.refused r) = refl
 answered-number out scratch (Answer.accepted s) = refl
 
@@ -56,14 +56,14 @@ module _ (current : List ℕ) (now : State) (holds : Holds current now) (c : Cal
   short : room (c .out) (c .scratch) ≡ false → outcome current c .number ≡ 10
   short e = ap (λ (o : Outcome). o .number) (committing-short current (c .event) (c .opens) (c .closes) (c .out) (c .scratch) e)
 
-  outcome-number : outcome current c .number ≡ decided (commit now (asks c))
+  pub outcome-number : outcome current c .number ≡ decided (commit now (asks c))
   outcome-number = by (room (c .out) (c .scratch)) refl
     where
       by : (b : Bool) → room (c .out) (c .scratch) ≡ b → outcome current c .number ≡ decided (commit now (asks c))
       by true e = ap (λ (o : Outcome). o .number) (roomy e) ∙ answered-number (c .out) (c .scratch) (commit now (asks c))
       by false e = short e ∙ ap decided (sym (short-refused e))
 
-  outcome-accepted : (next : State) → commit now (asks c) ≡ Answer.accepted next → outcome current c ≡ accepting next (c .out) (c .scratch)
+  pub outcome-accepted : (next : State) → commit now (asks c) ≡ Answer.accepted next → outcome current c ≡ accepting next (c .out) (c .scratch)
   outcome-accepted next q = by (room (c .out) (c .scratch)) refl
     where
       by : (b : Bool) → room (c .out) (c .scratch) ≡ b → outcome current c ≡ accepting next (c .out) (c .scratch)

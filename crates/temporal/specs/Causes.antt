@@ -1,11 +1,12 @@
 -- The number under which a commitment is refused is that of the first cause that applies, and no commitment is refused without one.
-use mathlib.Core.Path.{_≡_, refl}
+use mathlib.Core.Path.{_≡_, refl, sym, subst, _∙_}
 use mathlib.Core.Bool.{Bool, true, false, not, cond, _||_}
-use mathlib.Core.Logic.{_⊎_, inl, inr, _≢_}
+use mathlib.Core.Logic.{_↔_, _⊎_, inl, inr, _≢_}
 use Prim.Native.Nat.{ℕ}
 use native.Mathlib.Omega.{arith}
 use lib.Dec.{T, not-T, T-not, eqb, ltb, nltb→le, eqb→eq}
 use lib.Arith.{le→nltb}
+use Rattle.temporal.specs.Lists.{T-true, T-false}
 use Rattle.temporal.specs.Ticket.{Ticket, events, Distinct, Window, windowOf, Fit, fits}
 use Rattle.temporal.specs.Ends.{fits-fit, fit-fits}
 use Rattle.temporal.specs.Plan.{State, Commitment, flagged, window, noEvent, notInside, cause}
@@ -117,3 +118,56 @@ acceptable-accepted s c d a = go (cause-first s c d)
     go : FirstCause s c (cause s c) ⊎ ((cause s c ≡ 0) × Acceptable s c) → cause s c ≡ 0
     go (inl f) = absurd (first-refuses s c (cause s c) f a)
     go (inr e) = e .0
+
+-- ---- a refusal has a cause: "A causeless refusal is not allowed" (01, "Where a paper is sent back")
+
+holds-if : (b : Bool) → ¬ T (not b) → T b
+holds-if true n = tt
+holds-if false n = absurd (n tt)
+
+first-is : (s : State) (c : Commitment) (x : ℕ) → Distinct (s .ticket) → FirstCause s c x → (cause s c ≡ x) × (x ≢ 0)
+unfolding cause
+first-is s c x d f = by f
+  where
+    room : T (c .room) → c .room ≡ true
+    room r = T-true (c .room) r
+
+    fit : Fit (s .ticket) (s .windows) → fits (s .ticket) (s .windows) ≡ true
+    fit g = T-true (fits (s .ticket) (s .windows)) (fit-fits (s .ticket) d (s .windows) g)
+
+    is-event : Event (s .ticket) (c .event) → noEvent (s .ticket) (c .event) ≡ false
+    is-event v = T-false (noEvent (s .ticket) (c .event)) (event-test (s .ticket) (c .event) v)
+
+    by : FirstCause s c x → (cause s c ≡ x) × (x ≢ 0)
+    by (short e n) = (rw (T-false (c .room) (not-T (c .room) n)) (sym e), λ z. omega (arith, z))
+    by (unfit e r n) = (
+      rw (room r, T-false (fits (s .ticket) (s .windows)) (not-T (fits (s .ticket) (s .windows)) (λ t. n (fits-fit (s .ticket) (s .windows) t)))) (sym e),
+      λ z. omega (arith, z),
+    )
+    by (no-event e r g n) = (
+      rw (room r, fit g, T-true (noEvent (s .ticket) (c .event)) (holds-if (noEvent (s .ticket) (c .event)) (λ t. n (event (s .ticket) (c .event) t)))) (sym e),
+      λ z. omega (arith, z),
+    )
+    by (already e r g v t) = (rw (room r, fit g, is-event v, T-true (flagged (s .flags) (c .event)) t) (sym e), λ z. omega (arith, z))
+    by (outside e r g v t n) = (
+      rw (
+        room r,
+        fit g,
+        is-event v,
+        T-false (flagged (s .flags) (c .event)) t,
+        T-true (notInside (window c) (windowOf (s .windows) (c .event)))
+            (holds-if (notInside (window c) (windowOf (s .windows) (c .event))) (λ u. n (inside (window c) (windowOf (s .windows) (c .event)) u))),
+      ) (sym e),
+      λ z. omega (arith, z),
+    )
+
+-- a commitment's number is x and not 0 exactly where x is the number of the first cause that applies
+pub cause-iff : (s : State) (c : Commitment) → Distinct (s .ticket) → (x : ℕ) → FirstCause s c x ↔ ((cause s c ≡ x) × (x ≢ 0))
+cause-iff s c d x = (first-is s c x d, back)
+  where
+    back : (cause s c ≡ x) × (x ≢ 0) → FirstCause s c x
+    back q = go (cause-first s c d)
+      where
+        go : FirstCause s c (cause s c) ⊎ ((cause s c ≡ 0) × Acceptable s c) → FirstCause s c x
+        go (inl f) = subst (FirstCause s c) (q .0) f
+        go (inr e) = absurd (q .1 (sym (q .0) ∙ e .0))

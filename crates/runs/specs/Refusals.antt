@@ -1,0 +1,182 @@
+-- Refusals of the two calls (01, "Where a paper is sent back"): a call answers a number other than 0 exactly where it is that of the first cause that applies
+-- (`plan-refusal`, `commit-refusal`), so one to which none applies is accepted (`commit-accepted`); and it returns "number, zeros elsewhere" and leaves the
+-- output as it was (`plan-zeros`, `commit-zeros`). The causes are said in the words of 01. Rests on Calls and on `temporal`'s causes.
+use mathlib.Core.Path.{_≡_, refl, sym, ap, subst, _∙_}
+use mathlib.Core.Bool.{Bool, true, false, cond}
+use mathlib.Core.List.{List, []}
+use mathlib.Core.Logic.{_↔_, _⊎_, inl, inr, _≢_}
+use Prim.Native.Nat.{ℕ}
+use native.Mathlib.Omega.{arith}
+use lib.Dec.{T, not-T}
+use Rattle.temporal.specs.Lists.{T-true, T-false}
+use Rattle.temporal.specs.Ticket.{Ticket, Schedule}
+use Rattle.temporal.specs.Distance.{consistent, consistent-has}
+use Rattle.temporal.specs.Plan.{State, Answer, accepted, number as decision, asking, planned, plan, cause, commit}
+use Rattle.temporal.specs.Run.{Acceptable, FirstCause}
+use Rattle.temporal.specs.RunHolds.{distinct}
+use Rattle.temporal.specs.Answers.{plan-refused, commit-number}
+use Rattle.temporal.specs.Causes.{cause-iff, acceptable, acceptable-accepted}
+use Rattle.ticket.specs.Parser.{Cause, Out, number, got, refused, wholly}
+use Rattle.ticket.specs.Laws.{number-some}
+use Rattle.ticket.specs.Format.{readTicket, readState}
+use Rattle.ticket.specs.RoundTrip.{Bytes, written-read-state, answered}
+use Rattle.runs.specs.Calls as calls
+use Rattle.runs.specs.Calls.{Outcome, room, withoutRoom, afterReading, planning, planning-short, planning-read, committing, committing-short, committing-read}
+use Rattle.runs.specs.Run.{Call, asks, outcome, Holds}
+use Rattle.runs.specs.RunHolds.{answered-number, outcome-number}
+
+-- ---- the causes in the words of 01
+
+-- x is the number of the first cause to refuse a planning: "10 is tested first", then the bytes are read, "Then 9 for tickets"
+pub data PlanRefused (ticket out scratch : List ℕ) (x : ℕ) : Type 0 where
+  short : x ≡ 10 → ¬ T (room out scratch) → PlanRefused ticket out scratch x
+  unread : (c : Cause) → x ≡ number c → T (room out scratch) → wholly readTicket ticket ≡ refused c → PlanRefused ticket out scratch x
+  impossible : (k : Ticket) → x ≡ 9 → T (room out scratch) → wholly readTicket ticket ≡ got k [] → ((ts : List ℕ) → ¬ Schedule k ts)
+      → PlanRefused ticket out scratch x
+
+-- x is the number of the first cause to refuse a commitment: 10, then the bytes are read, then "15, 11, 12, 13"
+pub data CommitRefused (current : List ℕ) (c : Call) (x : ℕ) : Type 0 where
+  short : x ≡ 10 → ¬ T (room (c .out) (c .scratch)) → CommitRefused current c x
+  unread : (k : Cause) → x ≡ number k → T (room (c .out) (c .scratch)) → wholly readState current ≡ refused k → CommitRefused current c x
+  decided : (s : State) → T (room (c .out) (c .scratch)) → Holds current s → FirstCause s (asks c) x → CommitRefused current c x
+
+-- ---- planning
+
+by-room : {G : Type 0} (out scratch : List ℕ) → (room out scratch ≡ true → G) → (room out scratch ≡ false → G) → G
+by-room {G} out scratch f g = go (room out scratch) refl
+  where
+    go : (b : Bool) → room out scratch ≡ b → G
+    go true e = f e
+    go false e = g e
+
+has-room : (out scratch : List ℕ) → room out scratch ≡ true → T (room out scratch)
+has-room out scratch e = rw e tt
+
+no-room : (out scratch : List ℕ) → room out scratch ≡ false → ¬ T (room out scratch)
+no-room out scratch e t = subst T e t
+
+-- a ticket's number is 0 where it has a schedule, and 9 where it has none
+plan-by : (k : Ticket) → ((decision (plan k) ≡ 0)) ⊎ ((decision (plan k) ≡ 9) × ((ts : List ℕ) → ¬ Schedule k ts))
+unfolding plan
+plan-by k = go (consistent k) refl
+  where
+    go : (b : Bool) → consistent k ≡ b → (decision (cond b (accepted (planned k)) (Answer.refused 9)) ≡ 0) ⊎ ((decision (cond b (accepted (planned k)) (Answer.refused 9)) ≡ 9) × ((ts : List ℕ) → ¬ Schedule k ts))
+    go true e = inl refl
+    go false e = inr (refl, λ ts s. subst T e (consistent-has k .1 (ts, s)))
+
+module _ (ticket out scratch : List ℕ) where
+  plan-short : room out scratch ≡ false → planning ticket out scratch .number ≡ 10
+  plan-short e = ap (λ (o : Outcome). o .number) (planning-short ticket out scratch e)
+
+  plan-unread : (c : Cause) → room out scratch ≡ true → wholly readTicket ticket ≡ refused c → planning ticket out scratch .number ≡ number c
+  plan-unread c e q = ap (λ (o : Outcome). o .number) (planning-read ticket out scratch e ∙ ap (afterReading out scratch plan) q)
+
+  plan-decided : (k : Ticket) → room out scratch ≡ true → wholly readTicket ticket ≡ got k [] → planning ticket out scratch .number ≡ decision (plan k)
+  plan-decided k e q =
+      ap (λ (o : Outcome). o .number) (planning-read ticket out scratch e ∙ ap (afterReading out scratch plan) q) ∙ answered-number out scratch (plan k)
+
+  plan-caused : planning ticket out scratch .number ≢ 0 → PlanRefused ticket out scratch (planning ticket out scratch .number)
+  plan-caused n = by-room out scratch
+      (λ e. by-reading e (answered readTicket ticket))
+      (λ e. short (plan-short e) (no-room out scratch e))
+    where
+      by-schedule : room out scratch ≡ true → (k : Ticket) → wholly readTicket ticket ≡ got k []
+          → (decision (plan k) ≡ 0) ⊎ ((decision (plan k) ≡ 9) × ((ts : List ℕ) → ¬ Schedule k ts)) → PlanRefused ticket out scratch (planning ticket out scratch .number)
+      by-schedule e k q (inl z) = absurd (n (plan-decided k e q ∙ z))
+      by-schedule e k q (inr z) = impossible k (plan-decided k e q ∙ z .0) (has-room out scratch e) q (z .1)
+
+      by-reading : room out scratch ≡ true → ((k : Ticket) × (wholly readTicket ticket ≡ got k [])) ⊎ ((c : Cause) × (wholly readTicket ticket ≡ refused c))
+          → PlanRefused ticket out scratch (planning ticket out scratch .number)
+      by-reading e (inl r) = by-schedule e (r .0) (r .1) (plan-by (r .0))
+      by-reading e (inr r) = unread (r .0) (plan-unread (r .0) e (r .1)) (has-room out scratch e) (r .1)
+
+  plan-is-refused : (x : ℕ) → PlanRefused ticket out scratch x → (planning ticket out scratch .number ≡ x) × (x ≢ 0)
+  plan-is-refused x (short e n) = (plan-short (T-false (room out scratch) (not-T (room out scratch) n)) ∙ sym e, λ z. omega (arith, z))
+  plan-is-refused x (unread c e t q) = (plan-unread c (T-true (room out scratch) t) q ∙ sym e, λ z. omega (arith, z, number-some c))
+  plan-is-refused x (impossible k e t q none) =
+      (plan-decided k (T-true (room out scratch) t) q ∙ ap decision (plan-refused k none) ∙ sym e, λ z. omega (arith, z))
+
+  -- a planning's number is x and not 0 exactly where x is the number of the first cause that applies; so it is 9 exactly where the ticket that was read
+  -- has no schedule
+  pub plan-refusal : (x : ℕ) → PlanRefused ticket out scratch x ↔ ((planning ticket out scratch .number ≡ x) × (x ≢ 0))
+  plan-refusal x = (
+    plan-is-refused x,
+    λ q. subst (PlanRefused ticket out scratch) (q .0) (plan-caused (λ z. q .1 (sym (q .0) ∙ z))),
+  )
+
+-- ---- a commitment
+
+module _ (current : List ℕ) (bytes : Bytes current) (c : Call) where
+  commit-short : room (c .out) (c .scratch) ≡ false → outcome current c .number ≡ 10
+  commit-short e = ap (λ (o : Outcome). o .number) (committing-short current (c .event) (c .opens) (c .closes) (c .out) (c .scratch) e)
+
+  commit-unread : (k : Cause) → room (c .out) (c .scratch) ≡ true → wholly readState current ≡ refused k → outcome current c .number ≡ number k
+  commit-unread k e q =
+      ap (λ (o : Outcome). o .number)
+      (committing-read current (c .event) (c .opens) (c .closes) (c .out) (c .scratch) e
+      ∙ ap (afterReading (c .out) (c .scratch) (λ (s : State). commit s (asking (c .event) (c .opens) (c .closes)))) q)
+
+  -- the causes that it is tried for once the record is read
+  commit-cause : (s : State) → Holds current s → (x : ℕ) → FirstCause s (asks c) x ↔ ((outcome current c .number ≡ x) × (x ≢ 0))
+  commit-cause s h x =
+      let e : outcome current c .number ≡ cause s (asks c) = outcome-number current s h c ∙ commit-number s (asks c) in
+      let i = cause-iff s (asks c) (distinct (s .ticket) (written-read-state current s [] bytes h .1 .valid)) x in
+      (λ f. (e ∙ i .0 f .0, i .0 f .1), λ q. i .1 (sym e ∙ q .0, q .1))
+
+  commit-caused : (x : ℕ) → outcome current c .number ≡ x → x ≢ 0 → CommitRefused current c x
+  commit-caused x q n = by-room (c .out) (c .scratch)
+      (λ e. by-reading e (answered readState current))
+      (λ e. short (sym q ∙ commit-short e) (no-room (c .out) (c .scratch) e))
+    where
+      by-reading : room (c .out) (c .scratch) ≡ true → ((s : State) × Holds current s) ⊎ ((k : Cause) × (wholly readState current ≡ refused k)) → CommitRefused current c x
+      by-reading e (inl r) = decided (r .0) (has-room (c .out) (c .scratch) e) (r .1) (commit-cause (r .0) (r .1) x .1 (q, n))
+      by-reading e (inr r) = unread (r .0) (sym q ∙ commit-unread (r .0) e (r .1)) (has-room (c .out) (c .scratch) e) (r .1)
+
+  commit-is-refused : (x : ℕ) → CommitRefused current c x → (outcome current c .number ≡ x) × (x ≢ 0)
+  commit-is-refused x (short e n) =
+      (commit-short (T-false (room (c .out) (c .scratch)) (not-T (room (c .out) (c .scratch)) n)) ∙ sym e, λ z. omega (arith, z))
+  commit-is-refused x (unread k e t q) = (commit-unread k (T-true (room (c .out) (c .scratch)) t) q ∙ sym e, λ z. omega (arith, z, number-some k))
+  commit-is-refused x (decided s t h f) = commit-cause s h x .0 f
+
+  -- a commitment's number is x and not 0 exactly where x is the number of the first cause that applies
+  pub commit-refusal : (x : ℕ) → CommitRefused current c x ↔ ((outcome current c .number ≡ x) × (x ≢ 0))
+  commit-refusal x = (commit-is-refused x, λ q. commit-caused x (q .0) (q .1))
+
+  -- and 0 exactly where no cause applies to the record read
+  pub commit-accepted : (s : State) → Holds current s → Acceptable s (asks c) ↔ (outcome current c .number ≡ 0)
+  commit-accepted s h =
+      let e : outcome current c .number ≡ cause s (asks c) = outcome-number current s h c ∙ commit-number s (asks c) in (
+        λ a. e ∙ acceptable-accepted s (asks c) (distinct (s .ticket) (written-read-state current s [] bytes h .1 .valid)) a,
+        λ z. acceptable s (asks c) (rw (sym e ∙ z) tt),
+      )
+
+-- ---- "number, zeros elsewhere"
+
+-- a refusal has length 0 and total 0, and the output is as it was
+abbrev pub Zeros : List ℕ → Outcome → Type 0
+Zeros out o = o .number ≢ 0 → (o .length ≡ 0) × (o .total ≡ 0) × (o .out ≡ out)
+
+module _ (out scratch : List ℕ) where
+  zeros-short : Zeros out (withoutRoom out scratch)
+  zeros-short n = (refl, refl, refl)
+
+  zeros-answered : (a : Answer) → Zeros out (calls.answered out scratch a)
+  zeros-answered (Answer.refused r) n = (refl, refl, refl)
+  zeros-answered (Answer.accepted s) n = absurd (n refl)
+
+  zeros-read : {A : Type 0} (decide : A → Answer) (o : Out A) → Zeros out (afterReading out scratch decide o)
+  zeros-read decide (got x rest) = zeros-answered (decide x)
+  zeros-read decide (refused k) = λ n. (refl, refl, refl)
+
+  zeros-by : (b : Bool) (o : Outcome) → Zeros out o → Zeros out (cond b o (withoutRoom out scratch))
+  zeros-by true o h = h
+  zeros-by false o h = zeros-short
+
+  pub plan-zeros : (ticket : List ℕ) → Zeros out (planning ticket out scratch)
+  unfolding planning
+  plan-zeros ticket = zeros-by (room out scratch) _ (zeros-read plan (wholly readTicket ticket))
+
+  pub commit-zeros : (current : List ℕ) (event opens closes : ℕ) → Zeros out (committing current event opens closes out scratch)
+  unfolding committing
+  commit-zeros current event opens closes =
+      zeros-by (room out scratch) _ (zeros-read (λ (s : State). commit s (asking event opens closes)) (wholly readState current))
