@@ -11,4 +11,5 @@ pub mod Calls
 pub mod Run
 pub mod RunHolds
 pub mod Refusals
+pub mod FromRecord
 pub mod Examples

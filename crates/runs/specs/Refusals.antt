@@ -42,17 +42,17 @@ pub data CommitRefused (current : List ℕ) (c : Call) (x : ℕ) : Type 0 where
 
 -- ---- planning
 
-by-room : {G : Type 0} (out scratch : List ℕ) → (room out scratch ≡ true → G) → (room out scratch ≡ false → G) → G
+pub by-room : {G : Type 0} (out scratch : List ℕ) → (room out scratch ≡ true → G) → (room out scratch ≡ false → G) → G
 by-room {G} out scratch f g = go (room out scratch) refl
   where
     go : (b : Bool) → room out scratch ≡ b → G
     go true e = f e
     go false e = g e
 
-has-room : (out scratch : List ℕ) → room out scratch ≡ true → T (room out scratch)
+pub has-room : (out scratch : List ℕ) → room out scratch ≡ true → T (room out scratch)
 has-room out scratch e = rw e tt
 
-no-room : (out scratch : List ℕ) → room out scratch ≡ false → ¬ T (room out scratch)
+pub no-room : (out scratch : List ℕ) → room out scratch ≡ false → ¬ T (room out scratch)
 no-room out scratch e t = subst T e t
 
 -- a ticket's number is 0 where it has a schedule, and 9 where it has none
