@@ -1,6 +1,6 @@
 -- What the program prints for the bytes of a ticket, and how that follows from what planning returns and writes.
 use Prim.Native.Nat.{ℕ, _+_, _≤_, _<_}
-use mathlib.Core.Path.{_≡_, refl, ap, _∙_}
+use mathlib.Core.Path.{_≡_, refl, sym, ap, _∙_}
 use mathlib.Core.Bool.{true}
 use mathlib.Core.List.{List, [], _++_}
 use mathlib.Core.Logic.{_≢_, ⊎-elim}
@@ -13,6 +13,7 @@ use Rattle.temporal.specs.Run.{Valid, Readable, planning, Place}
 use Rattle.temporal.specs.RunHolds.{run}
 use Rattle.ticket.specs.Parser.{Cause, number, Out, got, refused, wholly}
 use Rattle.ticket.specs.RoundTrip.{Bytes, written-read, read-written-state, answered}
+use Rattle.ticket.specs.Prefix.{ticket-prefix}
 use Rattle.ticket.specs.Laws.{number-some}
 use Rattle.ticket.specs.Writer.{writeState}
 use Rattle.ticket.specs.Writing.{over}
@@ -41,6 +42,11 @@ readText (refused c) = refusal (number c)
 
 unfoldable pub printed : List ℕ → List ℕ
 printed ticket = readText (wholly readTicket ticket)
+
+-- a ticket has at most 1,584 bytes (01, "Ticket and record"), so 1,585 bytes of the input tell all that is printed
+pub printed-prefix : (s : List ℕ) → printed s ≡ printed (take 1585 s)
+unfolding printed
+printed-prefix s = ap readText (sym (ticket-prefix s))
 
 pub record-text : (s : State) → Readable s → recordText (storedState s) (total (s .ticket) (s .windows)) ≡ planText s
 record-text s r = ap (λ (lines : List ℕ). heading (events (s .ticket)) (total (s .ticket) (s .windows)) ++ lines)
