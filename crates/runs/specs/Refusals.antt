@@ -21,7 +21,8 @@ use Rattle.ticket.specs.Laws.{number-some}
 use Rattle.ticket.specs.Format.{readTicket, readState}
 use Rattle.ticket.specs.RoundTrip.{Bytes, written-read-state, answered}
 use Rattle.runs.specs.Calls as calls
-use Rattle.runs.specs.Calls.{Outcome, room, withoutRoom, afterReading, planning, planning-short, planning-read, committing, committing-short, committing-read}
+use Rattle.runs.specs.Calls.{Outcome, room, withoutRoom, afterReading}
+use Rattle.runs.specs.Calls.{planning, planning-short, planning-read, committing, committing-short, committing-read}
 use Rattle.runs.specs.Run.{Call, asks, outcome, Holds}
 use Rattle.runs.specs.RunHolds.{answered-number, outcome-number}
 
@@ -56,11 +57,13 @@ pub no-room : (out scratch : List ℕ) → room out scratch ≡ false → ¬ T (
 no-room out scratch e t = subst T e t
 
 -- a ticket's number is 0 where it has a schedule, and 9 where it has none
-plan-by : (k : Ticket) → ((decision (plan k) ≡ 0)) ⊎ ((decision (plan k) ≡ 9) × ((ts : List ℕ) → ¬ Schedule k ts))
+plan-by : (k : Ticket) → (decision (plan k) ≡ 0) ⊎ ((decision (plan k) ≡ 9) × ((ts : List ℕ) → ¬ Schedule k ts))
 unfolding plan
 plan-by k = go (consistent k) refl
   where
-    go : (b : Bool) → consistent k ≡ b → (decision (cond b (accepted (planned k)) (Answer.refused 9)) ≡ 0) ⊎ ((decision (cond b (accepted (planned k)) (Answer.refused 9)) ≡ 9) × ((ts : List ℕ) → ¬ Schedule k ts))
+    go : (b : Bool) → consistent k ≡ b
+        → (decision (cond b (accepted (planned k)) (Answer.refused 9)) ≡ 0)
+        ⊎ ((decision (cond b (accepted (planned k)) (Answer.refused 9)) ≡ 9) × ((ts : List ℕ) → ¬ Schedule k ts))
     go true e = inl refl
     go false e = inr (refl, λ ts s. subst T e (consistent-has k .1 (ts, s)))
 
@@ -81,11 +84,13 @@ module _ (ticket out scratch : List ℕ) where
       (λ e. short (plan-short e) (no-room out scratch e))
     where
       by-schedule : room out scratch ≡ true → (k : Ticket) → wholly readTicket ticket ≡ got k []
-          → (decision (plan k) ≡ 0) ⊎ ((decision (plan k) ≡ 9) × ((ts : List ℕ) → ¬ Schedule k ts)) → PlanRefused ticket out scratch (planning ticket out scratch .number)
+          → (decision (plan k) ≡ 0) ⊎ ((decision (plan k) ≡ 9) × ((ts : List ℕ) → ¬ Schedule k ts))
+          → PlanRefused ticket out scratch (planning ticket out scratch .number)
       by-schedule e k q (inl z) = absurd (n (plan-decided k e q ∙ z))
       by-schedule e k q (inr z) = impossible k (plan-decided k e q ∙ z .0) (has-room out scratch e) q (z .1)
 
-      by-reading : room out scratch ≡ true → ((k : Ticket) × (wholly readTicket ticket ≡ got k [])) ⊎ ((c : Cause) × (wholly readTicket ticket ≡ refused c))
+      by-reading : room out scratch ≡ true
+          → ((k : Ticket) × (wholly readTicket ticket ≡ got k [])) ⊎ ((c : Cause) × (wholly readTicket ticket ≡ refused c))
           → PlanRefused ticket out scratch (planning ticket out scratch .number)
       by-reading e (inl r) = by-schedule e (r .0) (r .1) (plan-by (r .0))
       by-reading e (inr r) = unread (r .0) (plan-unread (r .0) e (r .1)) (has-room out scratch e) (r .1)
@@ -128,7 +133,8 @@ module _ (current : List ℕ) (bytes : Bytes current) (c : Call) where
       (λ e. by-reading e (answered readState current))
       (λ e. short (sym q ∙ commit-short e) (no-room (c .out) (c .scratch) e))
     where
-      by-reading : room (c .out) (c .scratch) ≡ true → ((s : State) × Holds current s) ⊎ ((k : Cause) × (wholly readState current ≡ refused k)) → CommitRefused current c x
+      by-reading : room (c .out) (c .scratch) ≡ true → ((s : State) × Holds current s) ⊎ ((k : Cause) × (wholly readState current ≡ refused k))
+          → CommitRefused current c x
       by-reading e (inl r) = decided (r .0) (has-room (c .out) (c .scratch) e) (r .1) (commit-cause (r .0) (r .1) x .1 (q, n))
       by-reading e (inr r) = unread (r .0) (sym q ∙ commit-unread (r .0) e (r .1)) (has-room (c .out) (c .scratch) e) (r .1)
 

@@ -1,5 +1,5 @@
--- The table refuses under a number exactly where that is the number of the first cause that applies: "A causeless refusal is not allowed" (01, "Where a paper is
--- sent back"). The causes are said in the words of 01; the theorem is `table-refusal`. Rests on TableCauses.
+-- The table refuses under a number exactly where that is the number of the first cause that applies: "A causeless refusal is not allowed"
+-- (01, "Where a paper is sent back"). The causes are said in the words of 01; the theorem is `table-refusal`. Rests on TableCauses.
 use Prim.Native.Nat.{ℕ, zero, suc, _≤_, _<_}
 use mathlib.Core.Path.{_≡_, refl, sym, ap, subst, _∙_}
 use mathlib.Core.Bool.{Bool, true, false, not, cond, _||_}
@@ -46,7 +46,8 @@ pub data TableRefused (h n : ℕ) (rules : List Rule) (room x : ℕ) : Type 0 wh
   events : x ≡ 3 → 1681 ≤ room → h ≤ 1000000 → 40 < n → TableRefused h n rules room x
   count : x ≡ 5 → 1681 ≤ room → h ≤ 1000000 → n ≤ 40 → 256 < length rules → TableRefused h n rules room x
   rule : 1681 ≤ room → h ≤ 1000000 → n ≤ 40 → length rules ≤ 256 → RulesRefused n rules x → TableRefused h n rules room x
-  impossible : x ≡ 9 → 1681 ≤ room → Valid (ticketOf h n rules) → ((ts : List ℕ) → ¬ Schedule (ticketOf h n rules) ts) → TableRefused h n rules room x
+  impossible : x ≡ 9 → 1681 ≤ room → Valid (ticketOf h n rules) → ((ts : List ℕ) → ¬ Schedule (ticketOf h n rules) ts)
+      → TableRefused h n rules room x
 
 by-lt : {G : Type 0} (a b : ℕ) → (a < b → G) → (b ≤ a → G) → G
 by-lt {G} a b f g = go (ltb a b) refl
@@ -170,7 +171,8 @@ table-number h n rules out = by-lt 0 (cause h n rules (length out))
     ap (λ (a : ℕ × List ℤ). a .0) (sym (accepts h n rules out e)) ∙ sym e)
 
 -- the table's number is x and not 0 exactly where x is the number of the first cause that applies; so 0 where none does, and 9 where no schedule exists
-pub table-refusal : (h n : ℕ) (rules : List Rule) (out : List ℤ) (x : ℕ) → TableRefused h n rules (length out) x ↔ ((tableOf h n rules out .0 ≡ x) × (x ≢ 0))
+pub table-refusal : (h n : ℕ) (rules : List Rule) (out : List ℤ) (x : ℕ)
+    → TableRefused h n rules (length out) x ↔ ((tableOf h n rules out .0 ≡ x) × (x ≢ 0))
 table-refusal h n rules out x = (
   λ c. let q = cause-is h n rules (length out) x c in (table-number h n rules out ∙ q .0, λ z. omega (arith, q .1, z)),
   λ q.
