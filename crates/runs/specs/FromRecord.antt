@@ -1,7 +1,7 @@
 -- An accepted call: "length and total follow from the record" (01, "The job"), which is read from the start of the output that the call leaves
 -- (`plan-tells`, `commit-tells`); and the plan of a ticket with no events (`plan-nothing`). Rests on the round trips of `ticket` and on Refusals.
-use mathlib.Core.Path.{_≡_, refl, sym, ap, subst, _∙_}
-use mathlib.Core.Bool.{Bool, true, false}
+use mathlib.Core.Path.{_≡_, refl, sym, ap, _∙_}
+use mathlib.Core.Bool.{true}
 use mathlib.Core.List.{List, [], _∷_}
 use mathlib.Core.Logic.{_⊎_, inl, inr}
 use Prim.Native.Nat.{ℕ}
@@ -23,8 +23,8 @@ use Rattle.ticket.specs.RoundTrip.{Bytes, read-written, written-read, written-r
 use Rattle.runs.specs.Calls as calls
 use Rattle.runs.specs.Calls.{Outcome, room, accepting, afterReading, planning, planning-short, planning-read}
 use Rattle.runs.specs.Run.{Call, asks, outcome, Holds}
-use Rattle.runs.specs.RunHolds.{outcome-number, outcome-accepted}
-use Rattle.runs.specs.Refusals.{CommitRefused, short, unread, commit-refusal, commit-accepted, by-room, has-room, no-room}
+use Rattle.runs.specs.RunHolds.{outcome-accepted}
+use Rattle.runs.specs.Refusals.{CommitRefused, lent-short, unreadable, commit-refusal, commit-accepted, by-room, has-room, no-room}
 
 -- reading the output from its start gives the state s, and leaves what lies past the length returned; the length is the size of s's record, and the
 -- total that of its windows. So both are functions of the output's bytes.
@@ -75,7 +75,7 @@ module _ (current : List ℕ) (bytes : Bytes current) (c : Call) where
   pub commit-tells : outcome current c .number ≡ 0 → (s : State) × Tells (outcome current c) s
   commit-tells z = by-room (c .out) (c .scratch)
       (λ e. by-reading e (answered readState current))
-      (λ e. absurd (not-refused 10 (short refl (no-room (c .out) (c .scratch) e))))
+      (λ e. absurd (not-refused 10 (lent-short refl (no-room (c .out) (c .scratch) e))))
     where
       not-refused : (x : ℕ) → ¬ CommitRefused current c x
       not-refused x f =
@@ -94,7 +94,7 @@ module _ (current : List ℕ) (bytes : Bytes current) (c : Call) where
       by-reading : room (c .out) (c .scratch) ≡ true → ((s : State) × Holds current s) ⊎ ((k : Cause) × (wholly readState current ≡ refused k))
           → (s : State) × Tells (outcome current c) s
       by-reading e (inl r) = by-state (r .0) (r .1)
-      by-reading e (inr r) = absurd (not-refused (number (r .0)) (unread (r .0) refl (has-room (c .out) (c .scratch) e) (r .1)))
+      by-reading e (inr r) = absurd (not-refused (number (r .0)) (unreadable (r .0) refl (has-room (c .out) (c .scratch) e) (r .1)))
 
 -- ---- a ticket with no events
 

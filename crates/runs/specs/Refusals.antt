@@ -1,6 +1,6 @@
 -- Refusals of the two calls (01, "Where a paper is sent back"): a call answers a number other than 0 exactly where it is that of the first cause that applies
 -- (`plan-refusal`, `commit-refusal`), so one to which none applies is accepted (`commit-accepted`); and it returns "number, zeros elsewhere" and leaves the
--- output as it was (`plan-zeros`, `commit-zeros`). The causes are said in the words of 01. Rests on Calls and on `temporal`'s causes.
+-- output as it was (`plan-zeros`, `commit-zeros`). The causes of a planning are Run's `Unplanned`. Rests on Calls and on `temporal`'s causes.
 use mathlib.Core.Path.{_≡_, refl, sym, ap, subst, _∙_}
 use mathlib.Core.Bool.{Bool, true, false, cond}
 use mathlib.Core.List.{List, []}
@@ -23,22 +23,13 @@ use Rattle.ticket.specs.RoundTrip.{Bytes, written-read-state, answered}
 use Rattle.runs.specs.Calls as calls
 use Rattle.runs.specs.Calls.{Outcome, room, withoutRoom, afterReading}
 use Rattle.runs.specs.Calls.{planning, planning-short, planning-read, committing, committing-short, committing-read}
-use Rattle.runs.specs.Run.{Call, asks, outcome, Holds}
+use Rattle.runs.specs.Run.{Call, asks, outcome, Holds, Unplanned, short, unread, impossible}
 use Rattle.runs.specs.RunHolds.{answered-number, outcome-number}
 
--- ---- the causes in the words of 01
-
--- x is the number of the first cause to refuse a planning: "10 is tested first", then the bytes are read, "Then 9 for tickets"
-pub data PlanRefused (ticket out scratch : List ℕ) (x : ℕ) : Type 0 where
-  short : x ≡ 10 → ¬ T (room out scratch) → PlanRefused ticket out scratch x
-  unread : (c : Cause) → x ≡ number c → T (room out scratch) → wholly readTicket ticket ≡ refused c → PlanRefused ticket out scratch x
-  impossible : (k : Ticket) → x ≡ 9 → T (room out scratch) → wholly readTicket ticket ≡ got k [] → ((ts : List ℕ) → ¬ Schedule k ts)
-      → PlanRefused ticket out scratch x
-
--- x is the number of the first cause to refuse a commitment: 10, then the bytes are read, then "15, 11, 12, 13"
+-- x is the number of the first cause to refuse a commitment of any bytes (01, "Where a paper is sent back"): 10, then the bytes are read, then "15, 11, 12, 13"
 pub data CommitRefused (current : List ℕ) (c : Call) (x : ℕ) : Type 0 where
-  short : x ≡ 10 → ¬ T (room (c .out) (c .scratch)) → CommitRefused current c x
-  unread : (k : Cause) → x ≡ number k → T (room (c .out) (c .scratch)) → wholly readState current ≡ refused k → CommitRefused current c x
+  lent-short : x ≡ 10 → ¬ T (room (c .out) (c .scratch)) → CommitRefused current c x
+  unreadable : (k : Cause) → x ≡ number k → T (room (c .out) (c .scratch)) → wholly readState current ≡ refused k → CommitRefused current c x
   decided : (s : State) → T (room (c .out) (c .scratch)) → Holds current s → FirstCause s (asks c) x → CommitRefused current c x
 
 -- ---- planning
@@ -78,24 +69,24 @@ module _ (ticket out scratch : List ℕ) where
   plan-decided k e q =
       ap (λ (o : Outcome). o .number) (planning-read ticket out scratch e ∙ ap (afterReading out scratch plan) q) ∙ answered-number out scratch (plan k)
 
-  plan-caused : planning ticket out scratch .number ≢ 0 → PlanRefused ticket out scratch (planning ticket out scratch .number)
+  plan-caused : planning ticket out scratch .number ≢ 0 → Unplanned ticket out scratch (planning ticket out scratch .number)
   plan-caused n = by-room out scratch
       (λ e. by-reading e (answered readTicket ticket))
       (λ e. short (plan-short e) (no-room out scratch e))
     where
       by-schedule : room out scratch ≡ true → (k : Ticket) → wholly readTicket ticket ≡ got k []
           → (decision (plan k) ≡ 0) ⊎ ((decision (plan k) ≡ 9) × ((ts : List ℕ) → ¬ Schedule k ts))
-          → PlanRefused ticket out scratch (planning ticket out scratch .number)
+          → Unplanned ticket out scratch (planning ticket out scratch .number)
       by-schedule e k q (inl z) = absurd (n (plan-decided k e q ∙ z))
       by-schedule e k q (inr z) = impossible k (plan-decided k e q ∙ z .0) (has-room out scratch e) q (z .1)
 
       by-reading : room out scratch ≡ true
           → ((k : Ticket) × (wholly readTicket ticket ≡ got k [])) ⊎ ((c : Cause) × (wholly readTicket ticket ≡ refused c))
-          → PlanRefused ticket out scratch (planning ticket out scratch .number)
+          → Unplanned ticket out scratch (planning ticket out scratch .number)
       by-reading e (inl r) = by-schedule e (r .0) (r .1) (plan-by (r .0))
       by-reading e (inr r) = unread (r .0) (plan-unread (r .0) e (r .1)) (has-room out scratch e) (r .1)
 
-  plan-is-refused : (x : ℕ) → PlanRefused ticket out scratch x → (planning ticket out scratch .number ≡ x) × (x ≢ 0)
+  plan-is-refused : (x : ℕ) → Unplanned ticket out scratch x → (planning ticket out scratch .number ≡ x) × (x ≢ 0)
   plan-is-refused x (short e n) = (plan-short (T-false (room out scratch) (not-T (room out scratch) n)) ∙ sym e, λ z. omega (arith, z))
   plan-is-refused x (unread c e t q) = (plan-unread c (T-true (room out scratch) t) q ∙ sym e, λ z. omega (arith, z, number-some c))
   plan-is-refused x (impossible k e t q none) =
@@ -103,10 +94,10 @@ module _ (ticket out scratch : List ℕ) where
 
   -- a planning's number is x and not 0 exactly where x is the number of the first cause that applies; so it is 9 exactly where the ticket that was read
   -- has no schedule
-  pub plan-refusal : (x : ℕ) → PlanRefused ticket out scratch x ↔ ((planning ticket out scratch .number ≡ x) × (x ≢ 0))
+  pub plan-refusal : (x : ℕ) → Unplanned ticket out scratch x ↔ ((planning ticket out scratch .number ≡ x) × (x ≢ 0))
   plan-refusal x = (
     plan-is-refused x,
-    λ q. subst (PlanRefused ticket out scratch) (q .0) (plan-caused (λ z. q .1 (sym (q .0) ∙ z))),
+    λ q. subst (Unplanned ticket out scratch) (q .0) (plan-caused (λ z. q .1 (sym (q .0) ∙ z))),
   )
 
 -- ---- a commitment
@@ -131,17 +122,17 @@ module _ (current : List ℕ) (bytes : Bytes current) (c : Call) where
   commit-caused : (x : ℕ) → outcome current c .number ≡ x → x ≢ 0 → CommitRefused current c x
   commit-caused x q n = by-room (c .out) (c .scratch)
       (λ e. by-reading e (answered readState current))
-      (λ e. short (sym q ∙ commit-short e) (no-room (c .out) (c .scratch) e))
+      (λ e. lent-short (sym q ∙ commit-short e) (no-room (c .out) (c .scratch) e))
     where
       by-reading : room (c .out) (c .scratch) ≡ true → ((s : State) × Holds current s) ⊎ ((k : Cause) × (wholly readState current ≡ refused k))
           → CommitRefused current c x
       by-reading e (inl r) = decided (r .0) (has-room (c .out) (c .scratch) e) (r .1) (commit-cause (r .0) (r .1) x .1 (q, n))
-      by-reading e (inr r) = unread (r .0) (sym q ∙ commit-unread (r .0) e (r .1)) (has-room (c .out) (c .scratch) e) (r .1)
+      by-reading e (inr r) = unreadable (r .0) (sym q ∙ commit-unread (r .0) e (r .1)) (has-room (c .out) (c .scratch) e) (r .1)
 
   commit-is-refused : (x : ℕ) → CommitRefused current c x → (outcome current c .number ≡ x) × (x ≢ 0)
-  commit-is-refused x (short e n) =
+  commit-is-refused x (lent-short e n) =
       (commit-short (T-false (room (c .out) (c .scratch)) (not-T (room (c .out) (c .scratch)) n)) ∙ sym e, λ z. omega (arith, z))
-  commit-is-refused x (unread k e t q) = (commit-unread k (T-true (room (c .out) (c .scratch)) t) q ∙ sym e, λ z. omega (arith, z, number-some k))
+  commit-is-refused x (unreadable k e t q) = (commit-unread k (T-true (room (c .out) (c .scratch)) t) q ∙ sym e, λ z. omega (arith, z, number-some k))
   commit-is-refused x (decided s t h f) = commit-cause s h x .0 f
 
   -- a commitment's number is x and not 0 exactly where x is the number of the first cause that applies

@@ -1,7 +1,7 @@
 -- What is claimed of a run at the level of bytes: 01's section "A run", for any start and any list of commitments, in one statement.
 -- What a record's bytes hold is said by `ticket`'s reading; `temporal` says what a place, an allowed set and the chosen set are.
 use mathlib.Core.Path.{_≡_}
-use mathlib.Core.Bool.{false, not}
+use mathlib.Core.Bool.{false}
 use mathlib.Core.List.{List, [], _∷_}
 use mathlib.Core.Logic.{_≢_}
 use Prim.Native.Nat.{ℕ}
@@ -85,11 +85,12 @@ pub record Planned (ticket : List ℕ) (o : Outcome) (s : State) : Type 0 where
   pub chosen : Chosen (s .ticket) (Fit (s .ticket)) (s .windows)
   pub sum : o .total ≡ total (s .ticket) (s .windows)
 
--- a refused planning: the first cause that applies
-pub record Unplanned (ticket out scratch : List ℕ) (r : ℕ) : Type 0 where
-  pub short : T (not (room out scratch)) → r ≡ 10
-  pub unread : T (room out scratch) → (c : Cause) → wholly readTicket ticket ≡ refused c → r ≡ number c
-  pub impossible : T (room out scratch) → (k : Ticket) → wholly readTicket ticket ≡ got k [] → (r ≡ 9) × ((ts : List ℕ) → ¬ Schedule k ts)
+-- a refused planning: r is the number of the first cause that applies; "10 is tested first", then the bytes are read, "Then 9 for tickets"
+pub data Unplanned (ticket out scratch : List ℕ) (r : ℕ) : Type 0 where
+  short : r ≡ 10 → ¬ T (room out scratch) → Unplanned ticket out scratch r
+  unread : (c : Cause) → r ≡ number c → T (room out scratch) → wholly readTicket ticket ≡ refused c → Unplanned ticket out scratch r
+  impossible : (k : Ticket) → r ≡ 9 → T (room out scratch) → wholly readTicket ticket ≡ got k [] → ((ts : List ℕ) → ¬ Schedule k ts)
+      → Unplanned ticket out scratch r
 
 -- a planning of any bytes into any output and scratch, or the bytes of a record from anywhere
 pub data Start : Type 0 where

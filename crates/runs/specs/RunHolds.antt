@@ -1,6 +1,6 @@
 -- The claim of a run holds: `temporal`'s theorem over runs, carried to the bytes by the round trips of `ticket`.
 use mathlib.Core.Path.{_≡_, refl, sym, ap, subst, _∙_}
-use mathlib.Core.Bool.{Bool, true, false, not}
+use mathlib.Core.Bool.{Bool, true, false}
 use mathlib.Core.List.{List, [], _∷_, map}
 use mathlib.Core.Logic.{_≢_}
 use Prim.Native.Nat.{ℕ}
@@ -23,7 +23,7 @@ use Rattle.ticket.specs.Writer.{writeTicket, writeState}
 use Rattle.ticket.specs.Writing.{over}
 use Rattle.ticket.specs.RoundTrip.{Bytes, read-written-state, read-written, written-read, written-read-state}
 use Rattle.runs.specs.Calls.{Outcome, room, withoutRoom, accepting, answered, afterReading, planning, planning-short, planning-read, committing-short, committing-read}
-use Rattle.runs.specs.Run.{Call, asks, outcome, written, Holds, Claim, Planned, Unplanned, Start, planned, given, Run}
+use Rattle.runs.specs.Run.{Call, asks, outcome, written, Holds, Claim, Planned, Unplanned, short, unread, impossible, Start, planned, given, Run}
 
 pub answered-number : (out scratch : List ℕ) (a : Answer) → answered out scratch a .number ≡ decided a
 answered-number out scratch (Answer.refused r) = refl
@@ -53,15 +53,15 @@ module _ (current : List ℕ) (now : State) (holds : Holds current now) (c : Cal
   unfolding commit
   short-refused e = rw (short-cause e)
 
-  short : room (c .out) (c .scratch) ≡ false → outcome current c .number ≡ 10
-  short e = ap (λ (o : Outcome). o .number) (committing-short current (c .event) (c .opens) (c .closes) (c .out) (c .scratch) e)
+  pub outcome-short : room (c .out) (c .scratch) ≡ false → outcome current c .number ≡ 10
+  outcome-short e = ap (λ (o : Outcome). o .number) (committing-short current (c .event) (c .opens) (c .closes) (c .out) (c .scratch) e)
 
   pub outcome-number : outcome current c .number ≡ decided (commit now (asks c))
   outcome-number = by (room (c .out) (c .scratch)) refl
     where
       by : (b : Bool) → room (c .out) (c .scratch) ≡ b → outcome current c .number ≡ decided (commit now (asks c))
       by true e = ap (λ (o : Outcome). o .number) (roomy e) ∙ answered-number (c .out) (c .scratch) (commit now (asks c))
-      by false e = short e ∙ ap decided (sym (short-refused e))
+      by false e = outcome-short e ∙ ap decided (sym (short-refused e))
 
   pub outcome-accepted : (next : State) → commit now (asks c) ≡ Answer.accepted next → outcome current c ≡ accepting next (c .out) (c .scratch)
   outcome-accepted next q = by (room (c .out) (c .scratch)) refl
@@ -131,11 +131,7 @@ module _ (ticket out scratch : List ℕ) where
   start-short : (cs : List Call) → room out scratch ≡ false → Start-claimed cs (withoutRoom out scratch)
   unfolding Start-claimed
   start-short cs e = (
-    λ n. record {
-      short = λ t. refl;
-      unread = λ t. absurd (subst T e t);
-      impossible = λ t. absurd (subst T e t);
-    },
+    λ n. short refl (λ t. subst T e t),
     λ z. absurd (omega (arith, z)),
   )
 
@@ -143,19 +139,9 @@ module _ (ticket out scratch : List ℕ) where
       → Start-claimed cs (afterReading out scratch plan (refused cause′))
   unfolding Start-claimed
   start-unread cs e cause′ q = (
-    λ n. record {
-      short = λ t. absurd (subst (λ b. T (not b)) e t);
-      unread = λ t c q′. same c (sym q ∙ q′);
-      impossible = λ t k q′. absurd (never k (sym q ∙ q′));
-    },
+    λ n. unread cause′ refl (rw e tt) q,
     λ z. absurd (omega (arith, z, number-some cause′)),
   )
-    where
-      same : (c : Cause) → _≡_ {A = Out Ticket} (refused cause′) (refused c) → number cause′ ≡ number c
-      same c p = let h : cause′ ≡ c = cc in ap number h
-
-      never : (k : Ticket) → refused cause′ ≡ got k [] → ⊥
-      never k p = let z : _≡_ {A = ℕ} 0 1 = cc in omega arith
 
   start-read : (cs : List Call) → room out scratch ≡ true → Bytes ticket → (k : Ticket) (rest : List ℕ) → wholly readTicket ticket ≡ got k rest
       → Start-claimed cs (answered out scratch (plan k))
@@ -175,19 +161,9 @@ module _ (ticket out scratch : List ℕ) where
           → (answered out scratch a .number ≢ 0 → Unplanned ticket out scratch (answered out scratch a .number))
           × (answered out scratch a .number ≡ 0 → (s : State) × Planned ticket (answered out scratch a) s × Claim s [] (written (answered out scratch a)) s cs)
       by (Answer.refused r) g = (
-        λ n. record {
-          short = λ t. absurd (subst (λ b. T (not b)) e t);
-          unread = λ t c q′. absurd (never c (sym q ∙ q′));
-          impossible = λ t k′ q′. (g .0, subst (λ (k″ : Ticket). (ts : List ℕ) → ¬ Schedule k″ ts) (same k′ (sym q ∙ q′)) (g .1));
-        },
+        λ n. impossible k (g .0) (rw e tt) read (g .1),
         λ z. absurd (omega (arith, z, g .0)),
       )
-        where
-          never : (c : Cause) → got k rest ≡ refused c → ⊥
-          never c p = let z : _≡_ {A = ℕ} 0 1 = cc in omega arith
-
-          same : (k′ : Ticket) → got k rest ≡ got k′ [] → k ≡ k′
-          same k′ p = cc
       by (Answer.accepted s) g = (
         λ n. absurd (n refl),
         λ z. (

@@ -1,12 +1,12 @@
 -- The table refuses under a number exactly where that is the number of the first cause that applies: "A causeless refusal is not allowed"
 -- (01, "Where a paper is sent back"). The causes are said in the words of 01; the theorem is `table-refusal`. Rests on TableCauses.
-use Prim.Native.Nat.{ℕ, zero, suc, _≤_, _<_}
+use Prim.Native.Nat.{ℕ, _≤_, _<_}
 use mathlib.Core.Path.{_≡_, refl, sym, ap, subst, _∙_}
-use mathlib.Core.Bool.{Bool, true, false, not, cond, _||_}
+use mathlib.Core.Bool.{Bool, true, false, cond, _||_}
 use mathlib.Core.List.{List, [], _∷_}
 use mathlib.Core.Logic.{_↔_, _⊎_, inl, inr, _≢_}
 use native.Mathlib.Omega.{arith}
-use lib.Dec.{T, not-T, ltb, eqb}
+use lib.Dec.{not-T, ltb, eqb}
 use lib.IntN.{ℤ, pos, negsuc}
 use lib.ListN.{length}
 use lib.Signed.{_≤ℤ_, ltZ, ltZ-yes, ltZ-no, clashℤ}

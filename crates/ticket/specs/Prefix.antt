@@ -1,9 +1,9 @@
 -- A ticket is decided by its first 1,585 bytes: cut there, whatever is longer is read, or refused, as before (`ticket-prefix`). Assumes nothing.
 use Prim.Native.Nat.{ℕ, zero, suc, _+_, _*_, _≤_, _<_}
-use mathlib.Core.Path.{_≡_, refl, sym, ap, subst, _∙_}
+use mathlib.Core.Path.{_≡_, refl}
 use mathlib.Core.List.{List, [], _∷_}
 use mathlib.Core.Bool.{Bool, true, false}
-use native.Mathlib.Nat.{zero-mul, suc-mul}
+use native.Mathlib.Nat.{suc-mul}
 use native.Mathlib.Omega.{arith}
 use borrow.Author.Tests.{leb-true}
 use lib.Dec.{leb}
@@ -11,7 +11,7 @@ use lib.ListN.{take}
 use lib.Seq.{take-nil}
 use mir.Syntax.{w32}
 use mir.Val.{toZ}
-use Rattle.temporal.specs.Ticket.{Rule, Ticket}
+use Rattle.temporal.specs.Ticket.{Rule}
 use Rattle.ticket.specs.Parser.{Cause, horizon, events, owner, rules, points, bound, trailing, Out, got, refused, Parser, then, _>>=_, _>>_, give, expect, byte, little, many}
 use Rattle.ticket.specs.Parser.{end, wholly}
 use Rattle.ticket.specs.Format.{apart, within, ruleTest, readOwner, readRule, readTicket}
