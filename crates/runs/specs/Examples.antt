@@ -141,8 +141,10 @@ module _ (ticket : List ℕ) {k : Ticket} (read : wholly readTicket ticket ≡ g
   plans-refused : {r : ℕ} → plan k ≡ refused r → planning ticket out scratch ≡ expected (refuses r) out scratch
   plans-refused p = planning-read ticket out scratch e ∙ ap (afterReading out scratch plan) read ∙ ap (answered out scratch) p
 
-module _ (given : List ℕ) {s : State} (read : wholly readState given ≡ got s []) (event opens closes : ℕ) (out scratch : List ℕ) (e : room out scratch ≡ true) where
-  commits-writes : {next : State} (written : List ℕ) (t : ℕ) → commit s (asking event opens closes) ≡ accepted next → writeState next ≡ written → total (next .ticket) (next .windows) ≡ t
+module _ (given : List ℕ) {s : State} (read : wholly readState given ≡ got s [])
+    (event opens closes : ℕ) (out scratch : List ℕ) (e : room out scratch ≡ true) where
+  commits-writes : {next : State} (written : List ℕ) (t : ℕ) → commit s (asking event opens closes) ≡ accepted next → writeState next ≡ written
+      → total (next .ticket) (next .windows) ≡ t
       → committing given event opens closes out scratch ≡ expected (writes written t) out scratch
   commits-writes {next} written t p w q =
       committing-read given event opens closes out scratch e

@@ -1,6 +1,7 @@
--- Refusals of the two calls (01, "Where a paper is sent back"): a call answers a number other than 0 exactly where it is that of the first cause that applies
--- (`plan-refusal`, `commit-refusal`), so one to which none applies is accepted (`commit-accepted`); and it returns "number, zeros elsewhere" and leaves the
--- output as it was (`plan-zeros`, `commit-zeros`). The causes of a planning are Run's `Unplanned`. Rests on Calls and on `temporal`'s causes.
+-- Refusals of the two calls (01, "Where a paper is sent back"): a call answers a number other than 0 exactly where it is that of the first cause that
+-- applies (`plan-refusal`, `commit-refusal`; of 9 alone `plan-nine`), so one to which none applies is accepted (`commit-accepted`); and a refusal returns
+-- "number, zeros elsewhere" and leaves the output as it was (`plan-zeros`, `commit-zeros`). The causes of a planning are Run's `Unplanned`. Rests on Calls
+-- and on `temporal`'s causes.
 use mathlib.Core.Path.{_≡_, refl, sym, ap, subst, _∙_}
 use mathlib.Core.Bool.{Bool, true, false, cond}
 use mathlib.Core.List.{List, []}
@@ -17,7 +18,7 @@ use Rattle.temporal.specs.RunHolds.{distinct}
 use Rattle.temporal.specs.Answers.{plan-refused, commit-number}
 use Rattle.temporal.specs.Causes.{cause-iff, acceptable, acceptable-accepted}
 use Rattle.ticket.specs.Parser.{Cause, Out, number, got, refused, wholly}
-use Rattle.ticket.specs.Laws.{number-some}
+use Rattle.ticket.specs.Laws.{number-some, number-not-nine}
 use Rattle.ticket.specs.Format.{readTicket, readState}
 use Rattle.ticket.specs.RoundTrip.{Bytes, written-read-state, answered}
 use Rattle.runs.specs.Calls as calls
@@ -92,13 +93,26 @@ module _ (ticket out scratch : List ℕ) where
   plan-is-refused x (impossible k e t q none) =
       (plan-decided k (T-true (room out scratch) t) q ∙ ap decision (plan-refused k none) ∙ sym e, λ z. omega (arith, z))
 
-  -- a planning's number is x and not 0 exactly where x is the number of the first cause that applies; so it is 9 exactly where the ticket that was read
-  -- has no schedule
+  -- a planning's number is x and not 0 exactly where x is the number of the first cause that applies
   pub plan-refusal : (x : ℕ) → Unplanned ticket out scratch x ↔ ((planning ticket out scratch .number ≡ x) × (x ≢ 0))
   plan-refusal x = (
     plan-is-refused x,
     λ q. subst (Unplanned ticket out scratch) (q .0) (plan-caused (λ z. q .1 (sym (q .0) ∙ z))),
   )
+
+-- so it is 9 exactly where a ticket is read and no schedule exists
+pub plan-nine : (ticket out scratch : List ℕ)
+    → (planning ticket out scratch .number ≡ 9)
+    ↔ ((k : Ticket) × T (room out scratch) × (wholly readTicket ticket ≡ got k []) × ((ts : List ℕ) → ¬ Schedule k ts))
+plan-nine ticket out scratch = (
+  λ e. by (plan-refusal ticket out scratch 9 .1 (e, λ z. omega (arith, z))),
+  λ q. plan-refusal ticket out scratch 9 .0 (impossible (q .0) refl (q .1) (q .2) (q .3)) .0,
+)
+  where
+    by : Unplanned ticket out scratch 9 → (k : Ticket) × T (room out scratch) × (wholly readTicket ticket ≡ got k []) × ((ts : List ℕ) → ¬ Schedule k ts)
+    by (short e n) = absurd (omega (arith, e))
+    by (unread c e t q) = absurd (number-not-nine c (sym e))
+    by (impossible k e t q none) = (k, t, q, none)
 
 -- ---- a commitment
 

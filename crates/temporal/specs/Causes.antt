@@ -1,4 +1,4 @@
--- The number under which a commitment is refused is that of the first cause that applies, and no commitment is refused without one.
+-- The number under which a commitment is refused is that of the first cause that applies, and no commitment is refused without one (`cause-iff`).
 use mathlib.Core.Path.{_≡_, refl, sym, subst, _∙_}
 use mathlib.Core.Bool.{Bool, true, false, not, cond, _||_}
 use mathlib.Core.Logic.{_↔_, _⊎_, inl, inr, _≢_}

@@ -1,5 +1,6 @@
 -- The table refuses under a number exactly where that is the number of the first cause that applies: "A causeless refusal is not allowed"
--- (01, "Where a paper is sent back"). The causes are said in the words of 01; the theorem is `table-refusal`. Rests on TableCauses.
+-- (01, "Where a paper is sent back"). The causes are said in the words of 01; the theorem is `table-refusal`, and of 9 alone `table-nine`.
+-- Rests on TableCauses.
 use Prim.Native.Nat.{ℕ, _≤_, _<_}
 use mathlib.Core.Path.{_≡_, refl, sym, ap, subst, _∙_}
 use mathlib.Core.Bool.{Bool, true, false, cond, _||_}
@@ -39,7 +40,7 @@ abbrev pub RulesRefused : ℕ → List Rule → ℕ → Type 0
 RulesRefused n [] x = ⊥
 RulesRefused n (r ∷ rs) x = RuleRefused n r x ⊎ (ValidRule n r × RulesRefused n rs x)
 
--- x is the number of the first cause that applies: "The table gives 10, 2, 3, 5, then rule by rule 6 before 7, then 9"
+-- x is the number of the first cause that applies, where `room` numbers are lent as output: "The table gives 10, 2, 3, 5, then rule by rule 6 before 7, then 9"
 pub data TableRefused (h n : ℕ) (rules : List Rule) (room x : ℕ) : Type 0 where
   short : x ≡ 10 → room < 1681 → TableRefused h n rules room x
   horizon : x ≡ 2 → 1681 ≤ room → 1000000 < h → TableRefused h n rules room x
@@ -139,7 +140,8 @@ module _ (h n : ℕ) (rules : List Rule) (room : ℕ) where
       (λ s. rule wide near few some (subst (RulesRefused n rules) (sym (cause-rules h n rules room wide near few some s)) (rules-has n rules s)))
       (λ z.
       let e : rulesCause n rules ≡ 0 = omega (arith, z) in
-      by-schedule (consistent (ticketOf h n rules)) refl wide (ticket-valid h n rules near few some e) (cause-last h n rules room wide near few some _ e refl))))))
+      by-schedule (consistent (ticketOf h n rules)) refl wide (ticket-valid h n rules near few some e)
+      (cause-last h n rules room wide near few some _ e refl))))))
     where
       by-schedule : (b : Bool) → consistent (ticketOf h n rules) ≡ b → 1681 ≤ room → Valid (ticketOf h n rules) → cause h n rules room ≡ cond b 0 9
           → TableRefused h n rules room (cause h n rules room)
@@ -170,7 +172,7 @@ table-number h n rules out = by-lt 0 (cause h n rules (length out))
     let e : cause h n rules (length out) ≡ 0 = omega (arith, z) in
     ap (λ (a : ℕ × List ℤ). a .0) (sym (accepts h n rules out e)) ∙ sym e)
 
--- the table's number is x and not 0 exactly where x is the number of the first cause that applies; so 0 where none does, and 9 where no schedule exists
+-- the table's number is x and not 0 exactly where x is the number of the first cause that applies, so 0 exactly where none does
 pub table-refusal : (h n : ℕ) (rules : List Rule) (out : List ℤ) (x : ℕ)
     → TableRefused h n rules (length out) x ↔ ((tableOf h n rules out .0 ≡ x) × (x ≢ 0))
 table-refusal h n rules out x = (
@@ -179,3 +181,26 @@ table-refusal h n rules out x = (
       let e : cause h n rules (length out) ≡ x = sym (table-number h n rules out) ∙ q .0 in
       subst (TableRefused h n rules (length out)) e (cause-has h n rules (length out) (omega (arith, e, q .1))),
 )
+
+not-nine : (n : ℕ) (rs : List Rule) → ¬ RulesRefused n rs 9
+not-nine n [] c = c
+not-nine n (r ∷ rs) (inl (points e w)) = omega (arith, e)
+not-nine n (r ∷ rs) (inl (bound e p w)) = omega (arith, e)
+not-nine n (r ∷ rs) (inr c) = not-nine n rs (c .1)
+
+-- so it is 9 exactly where nothing else is wrong and no schedule exists
+pub table-nine : (h n : ℕ) (rules : List Rule) (out : List ℤ)
+    → (tableOf h n rules out .0 ≡ 9)
+    ↔ ((1681 ≤ length out) × Valid (ticketOf h n rules) × ((ts : List ℕ) → ¬ Schedule (ticketOf h n rules) ts))
+table-nine h n rules out = (
+  λ e. by (table-refusal h n rules out 9 .1 (e, λ z. omega (arith, z))),
+  λ q. table-refusal h n rules out 9 .0 (impossible refl (q .0) (q .1) (q .2)) .0,
+)
+  where
+    by : TableRefused h n rules (length out) 9 → (1681 ≤ length out) × Valid (ticketOf h n rules) × ((ts : List ℕ) → ¬ Schedule (ticketOf h n rules) ts)
+    by (short e l) = absurd (omega (arith, e))
+    by (horizon e w l) = absurd (omega (arith, e))
+    by (events e w l m) = absurd (omega (arith, e))
+    by (count e w l m o) = absurd (omega (arith, e))
+    by (rule w l m o c) = absurd (not-nine n rules c)
+    by (impossible e w v none) = (w, v, none)

@@ -12,8 +12,8 @@ use lib.Seq.{take-nil}
 use mir.Syntax.{w32}
 use mir.Val.{toZ}
 use Rattle.temporal.specs.Ticket.{Rule}
-use Rattle.ticket.specs.Parser.{Cause, horizon, events, owner, rules, points, bound, trailing, Out, got, refused, Parser, then, _>>=_, _>>_, give, expect, byte, little, many}
-use Rattle.ticket.specs.Parser.{end, wholly}
+use Rattle.ticket.specs.Parser.{Cause, horizon, events, owner, rules, points, bound, trailing, Out, got, refused}
+use Rattle.ticket.specs.Parser.{Parser, then, _>>=_, _>>_, give, expect, byte, little, many, end, wholly}
 use Rattle.ticket.specs.Format.{apart, within, ruleTest, readOwner, readRule, readTicket}
 
 -- Of all the bytes the first answer, of the first n the second: the same value, and of what is left the first m bytes, where at most k were read; or the
@@ -102,7 +102,8 @@ ticket-reads =
     test-reads 1580 (leb h 1000000) horizon _ (λ eh.
     bind-reads 2 1578 (little 2) _ (little-reads 2) (λ n.
     test-reads 1578 (leb n 40) events _ (λ en.
-    bind-reads 40 1538 (many readOwner n) _ (wider (n * 1) 40 (many readOwner n) (omega (arith, leb-true n 40 en)) (many-reads 1 readOwner owner-reads n)) (λ os.
+    bind-reads 40 1538 (many readOwner n) _
+    (wider (n * 1) 40 (many readOwner n) (omega (arith, leb-true n 40 en)) (many-reads 1 readOwner owner-reads n)) (λ os.
     bind-reads 2 1536 (little 2) _ (little-reads 2) (λ m.
     test-reads 1536 (leb m 256) rules _ (λ em.
     bind-reads 1536 0 (many (readRule n) m) _
