@@ -39,9 +39,10 @@ fn lend(input: &[u8], s: State) -> State {
 }
 
 // The calls that change nothing.
-fn try_call(letter: u8, input: &[u8], out: usize) {
+fn try_call(letter: u8, input: &[u8], kept: &[u8], out: usize) {
     match letter {
-        b'r' => forms::read(input),
+        b'r' => forms::read(input, input),
+        b'o' => forms::read(input, kept),
         b'e' => forms::every(input),
         b'w' => forms::write(input, out),
         _ => distances::table(input, out),
@@ -54,7 +55,7 @@ fn call(letter: u8, input: &[u8], kept: &mut [u8], s: State) -> State {
         b'l' => lend(input, s),
         b'p' | b'c' => planning::call(letter, input, kept, s),
         _ => {
-            try_call(letter, input, s.out);
+            try_call(letter, input, lent::part(kept, s.kept), s.out);
             s
         }
     }

@@ -11,56 +11,57 @@ use ticket::Written;
 
 // ---- writing
 
-// The number and the length, and whether the output is right: the first bytes of the input, or as it was.
-fn say_written(w: Written, input: &[u8], out: &[u8]) -> bool {
+// The number and the length, and whether the output is right: the first of the bytes expected, or as it was.
+fn say_written(w: Written, expected: &[u8], out: &[u8]) -> bool {
     print::number(w.number);
     print::length(w.length);
-    lent::written(lent::part(input, w.length), out)
+    lent::written(lent::part(expected, w.length), out)
 }
 
-fn write_ticket(t: Ticket, input: &[u8], room: usize) -> bool
+fn write_ticket(t: Ticket, expected: &[u8], room: usize) -> bool
     requires { ⌜ room ≤ 2048 ⌝ }
 {
     let mut out = lent::output();
     let w = writing::write_ticket(t, &mut out[..room]);
-    say_written(w, input, &out)
+    say_written(w, expected, &out)
 }
 
-fn write_record(r: Record, input: &[u8], room: usize) -> bool
+fn write_record(r: Record, expected: &[u8], room: usize) -> bool
     requires { ⌜ room ≤ 2048 ⌝ }
 {
     let mut out = lent::output();
     let w = writing_records::write_record(r, &mut out[..room]);
-    say_written(w, input, &out)
+    say_written(w, expected, &out)
 }
 
 // ---- reading, and writing what was read
 
-// The input as a ticket.
-fn read_ticket(input: &[u8]) -> bool {
+// The input as a ticket; whether what is written of it are the bytes expected.
+fn read_ticket(input: &[u8], expected: &[u8]) -> bool {
     let r = reading::read_ticket(input);
     print::number(r.number);
     if r.number == 0 {
-        write_ticket(r.ticket, input, 2048)
+        write_ticket(r.ticket, expected, 2048)
     } else {
         true
     }
 }
 
-// The input as a record.
-fn read_record(input: &[u8]) -> bool {
+// The same as a record.
+fn read_record(input: &[u8], expected: &[u8]) -> bool {
     let r = reading_records::read_record(input);
     print::number(r.number);
     if r.number == 0 {
-        write_record(r.plan, input, 2048)
+        write_record(r.plan, expected, 2048)
     } else {
         true
     }
 }
 
-pub fn read(input: &[u8]) {
-    let ticket = read_ticket(input);
-    let record = read_record(input);
+// What is written of what was read is the input, unless a case expects other bytes, to fail.
+pub fn read(input: &[u8], expected: &[u8]) {
+    let ticket = read_ticket(input, expected);
+    let record = read_record(input, expected);
     print::end(ticket & record);
 }
 

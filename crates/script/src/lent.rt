@@ -2,6 +2,7 @@
 // Rests on the library `check` for comparing.
 ghost use mathlib.Core.Path.{_≡_};
 ghost use lib.ListN.{length};
+ghost use Rattle.script.specs.Lent.{Decides, untouched, holding, leftAt, Cleared};
 
 // What holds between cases: the length of the kept bytes, and how much output and scratch is lent.
 pub struct State {
@@ -12,6 +13,7 @@ pub struct State {
 
 pub fn output() -> [u8; 2048]
     ensures { λ r. ⌜ 2048 ≡ length r ⌝ }
+    ensures { λ r. ⌜ r ≡ untouched ⌝ }
 {
     [7u8; 2048]
 }
@@ -31,14 +33,18 @@ pub fn part(s: &[u8], n: usize) -> &[u8] {
 }
 
 // Whether an output holds the bytes, and after them what it held before.
-pub fn written(bytes: &[u8], out: &[u8]) -> bool {
+pub fn written(bytes: &[u8], out: &[u8]) -> bool
+    ensures { λ r. ⌜ Decides r (now (out .entry) ≡ holding (now (bytes .entry)) untouched) ⌝ }
+{
     let mut right = output();
     crate::copy(bytes, &mut right);
     check::same(out, &right)
 }
 
 // What a number of scratch must be after a call: 10 leaves all as they were, others clear 8,192.
-fn cleared(number: u32, i: usize) -> u32 {
+fn cleared(number: u32, i: usize) -> u32
+    ensures { λ r. ⌜ r ≡ leftAt number i ⌝ }
+{
     if number == 10 {
         return 7;
     }
@@ -46,7 +52,9 @@ fn cleared(number: u32, i: usize) -> u32 {
 }
 
 // Whether scratch holds what it must.
-pub fn is_cleared(number: u32, scratch: &[u32]) -> bool {
+pub fn is_cleared(number: u32, scratch: &[u32]) -> bool
+    ensures { λ r. ⌜ Decides r (Cleared number (now (scratch .entry))) ⌝ }
+{
     let mut i = 0;
     while i < scratch.len() {
         if scratch[i] != cleared(number, i) {

@@ -4,8 +4,10 @@
 pub mod lent;
 pub mod print;
 
+ghost use mathlib.Core.Path.{_≡_};
 ghost use Prim.Native.Nat.{_+_, _≤_, _<_, min};
 ghost use lib.ListN.{length};
+ghost use Rattle.script.specs.Lent.{holding};
 
 // ---- numbers in bytes
 
@@ -88,14 +90,15 @@ fn width(word: &[u8], usual: usize) -> usize {
 // ---- bytes
 
 pub fn least(a: usize, b: usize) -> usize
-    ensures { λ r. ⌜ (r ≤ a) × (r ≤ b) ⌝ }
+    ensures { λ r. ⌜ r ≡ min a b ⌝ }
 {
     if a < b { a } else { b }
 }
 
 // The bytes at the start of the output, as far as there is room; how many.
 pub fn copy(from: &[u8], out: &mut [u8]) -> usize
-    ensures { λ r. ⌜ r ≤ length (now (out .entry)) ⌝ }
+    ensures { λ r. ⌜ r ≡ min (length (now (from .entry))) (length (now (out .entry))) ⌝ }
+    ensures { λ r. ⌜ now (out .exit) ≡ holding (now (from .entry)) (now (out .entry)) ⌝ }
 {
     let n = least(from.len(), out.len());
     let mut i = 0;
