@@ -2,7 +2,9 @@
 // Rests on the crates `reading`, `reading_records`, `writing` and `writing_records`, on the structs of `ticket`, and on `script` for input, output and printing.
 
 ghost use Prim.Native.Nat.{_≤_};
-ghost use lib.ListN.{length};
+ghost use mathlib.Core.Path.{_≡_};
+ghost use lib.ListN.{length, take};
+ghost use Rattle.script.specs.Lent.{Decides, untouched, holding};
 use script::lent;
 use script::print;
 use ticket::Record;
@@ -12,7 +14,9 @@ use ticket::Written;
 // ---- writing
 
 // The number and the length, and whether the output is right: the first of the bytes expected, or as it was.
-fn say_written(w: Written, expected: &[u8], out: &[u8]) -> bool {
+fn say_written(w: Written, expected: &[u8], out: &[u8]) -> bool
+    ensures { λ r. ⌜ Decides r (now (out .entry) ≡ holding (take (w .length) (now (expected .entry))) untouched) ⌝ }
+{
     print::number(w.number);
     print::length(w.length);
     lent::written(lent::part(expected, w.length), out)

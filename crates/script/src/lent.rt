@@ -1,7 +1,7 @@
 // What is lent to a call, and what it must hold afterwards.
 // Rests on the library `check` for comparing.
 ghost use mathlib.Core.Path.{_≡_};
-ghost use lib.ListN.{length};
+ghost use lib.ListN.{length, take};
 ghost use Rattle.script.specs.Lent.{Decides, untouched, holding, leftAt, Cleared};
 
 // What holds between cases: the length of the kept bytes, and how much output and scratch is lent.
@@ -25,7 +25,9 @@ pub fn scratch() -> [u32; 8200]
 }
 
 // The first n bytes, all where there are fewer.
-pub fn part(s: &[u8], n: usize) -> &[u8] {
+pub fn part(s: &[u8], n: usize) -> &[u8]
+    ensures { λ r. ⌜ now r ≡ take n (now (s .entry)) ⌝ }
+{
     if n <= s.len() {
         return &s[..n];
     }
