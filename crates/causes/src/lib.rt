@@ -13,15 +13,22 @@ ghost use Rattle.network.specs.Stored.{at};
 ghost use Rattle.runs.specs.Calls.{cleared};
 ghost use Rattle.causes.specs.Structs.{Kept};
 ghost use Rattle.causes.specs.FirstCause.{firstCause};
+use ticket::Ticket;
+
+// The most events, in the type of an event that is named.
+const EVENTS: u32 = Ticket::EVENTS as u32;
+
+// The least numbers of scratch, and how many are cleared.
+const SCRATCH: usize = 8192;
 
 // Whether an output or scratch of these lengths is too short.
 pub fn short(out: usize, scratch: usize) -> bool
     ensures { λ r. ⌜ r ≡ not (leb 1948 out && leb 8192 scratch) ⌝ }
 {
-    if out < 1948 {
+    if out < ticket::RECORD_BYTES {
         return true;
     }
-    scratch < 8192
+    scratch < SCRATCH
 }
 
 // Put 0 into the first 8,192 numbers.
@@ -30,7 +37,7 @@ pub fn clear(scratch: &mut [u32])
     ensures { λ _. ⌜ now (scratch .exit) ≡ cleared (now (scratch .entry)) ⌝ }
 {
     let mut i = 0;
-    while i < 8192 {
+    while i < SCRATCH {
         scratch[i] = 0;
         i += 1;
     }
@@ -72,28 +79,28 @@ fn first_cause(fit: bool, n: u32, event: u32, committed: bool, leaves: bool) -> 
 }
 
 // The number that an array has for an event, 0 for point 0 and past the array.
-fn number_at(xs: &[u32; 40], event: u32) -> u32
+fn number_at(xs: &[u32; Ticket::EVENTS], event: u32) -> u32
     requires { ⌜ length (now xs) ≡ 40 ⌝ }
     ensures { λ r. ⌜ r ≡ at (0 ∷ now (xs .entry)) event ⌝ }
 {
     if event == 0 {
         return 0;
     }
-    if 40 < event {
+    if EVENTS < event {
         return 0;
     }
     xs[event as usize - 1]
 }
 
 // Whether the flag of an event is set.
-fn flag_at(flags: &[u8; 40], event: u32) -> bool
+fn flag_at(flags: &[u8; Ticket::EVENTS], event: u32) -> bool
     requires { ⌜ length (now flags) ≡ 40 ⌝ }
     ensures { λ r. ⌜ r ≡ eqb (at (0 ∷ now (flags .entry)) event) 1 ⌝ }
 {
     if event == 0 {
         return false;
     }
-    if 40 < event {
+    if EVENTS < event {
         return false;
     }
     flags[event as usize - 1] == 1

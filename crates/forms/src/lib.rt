@@ -145,34 +145,34 @@ pub fn spread_bounds(s: &[u8], start: usize, out: &mut [i32])
 }
 
 // Fields of 40 events and of 256 rules.
-fn event_bytes(s: &[u8], start: usize, step: usize) -> [u8; 40]
+fn event_bytes(s: &[u8], start: usize, step: usize) -> [u8; Ticket::EVENTS]
     requires { ⌜ (start ≤ 2000) × (step ≤ 9) ⌝ }
 {
-    let mut field = [0u8; 40];
+    let mut field = [0u8; Ticket::EVENTS];
     spread(s, start, step, &mut field);
     field
 }
 
-fn event_numbers(s: &[u8], start: usize) -> [u32; 40]
+fn event_numbers(s: &[u8], start: usize) -> [u32; Ticket::EVENTS]
     requires { ⌜ start ≤ 2000 ⌝ }
 {
-    let mut field = [0u32; 40];
+    let mut field = [0u32; Ticket::EVENTS];
     spread_numbers(s, start, &mut field);
     field
 }
 
-fn rule_bytes(s: &[u8], start: usize) -> [u8; 256]
+fn rule_bytes(s: &[u8], start: usize) -> [u8; Ticket::RULES]
     requires { ⌜ start ≤ 2000 ⌝ }
 {
-    let mut field = [0u8; 256];
+    let mut field = [0u8; Ticket::RULES];
     spread(s, start, 6, &mut field);
     field
 }
 
-fn rule_bounds(s: &[u8], start: usize) -> [i32; 256]
+fn rule_bounds(s: &[u8], start: usize) -> [i32; Ticket::RULES]
     requires { ⌜ start ≤ 2000 ⌝ }
 {
-    let mut field = [0i32; 256];
+    let mut field = [0i32; Ticket::RULES];
     spread_bounds(s, start, &mut field);
     field
 }

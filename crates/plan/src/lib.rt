@@ -63,9 +63,9 @@ fn plan_ticket(t: ticket::Ticket, out: &mut [u8], scratch: &mut [u32]) -> Answer
     requires { ⌜ (1948 ≤ length (now out)) × (1824 ≤ length (now scratch)) ⌝ }
     ensures { λ a. ⌜ Meets (answered (now (out .entry)) (now (scratch .entry)) (plan (content t))) (now (scratch .entry)) a (now (out .exit)) (now (scratch .exit)) ⌝ }
 {
-    let flags = [0u8; 40];
-    let mut opens = [0u32; 40];
-    let mut closes = [0u32; 40];
+    let flags = [0u8; ticket::Ticket::EVENTS];
+    let mut opens = [0u32; ticket::Ticket::EVENTS];
+    let mut closes = [0u32; ticket::Ticket::EVENTS];
     let found = windows::plan_windows(&mut scratch[..1824], t, &mut opens, &mut closes);
     if !found {
         return refusal(9);
@@ -173,7 +173,9 @@ pub fn commit_bytes(
     scratch: &mut [u32],
 ) -> Answer
     requires { ⌜ (1948 ≤ length (now out)) × (1824 ≤ length (now scratch)) ⌝ }
-    ensures { λ a. ⌜ Meets (afterReading (now (out .entry)) (now (scratch .entry)) (λ (s : State). commit s (asking event opens closes)) (wholly readState (now («record» .entry)))) (now (scratch .entry)) a (now (out .exit)) (now (scratch .exit)) ⌝ }
+    ensures { λ a.
+        ⌜ Meets (afterReading (now (out .entry)) (now (scratch .entry)) (λ (s : State). commit s (asking event opens closes)) (wholly readState (now («record» .entry))))
+        (now (scratch .entry)) a (now (out .exit)) (now (scratch .exit)) ⌝ }
 {
     let read = reading_records::read_record(record);
     if read.number != 0 {

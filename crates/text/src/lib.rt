@@ -9,6 +9,7 @@ ghost use Rattle.text.specs.Text.{decimal, refusal, heading, eventLine, 
 ghost use Rattle.text.specs.Text.{digit as Text·digit};
 ghost use Rattle.text.specs.Stores.{Puts};
 use ticket::Record;
+use ticket::Ticket;
 
 fn digit(d: u32) -> u8
     requires { ⌜ d < 10 ⌝ }
@@ -75,9 +76,9 @@ fn put_events<'a>(
     out: &mut [u8],
     at: usize,
     n: usize,
-    owners: &'a [u8; 40],
-    opens: &'a [u32; 40],
-    closes: &'a [u32; 40],
+    owners: &'a [u8; Ticket::EVENTS],
+    opens: &'a [u32; Ticket::EVENTS],
+    closes: &'a [u32; Ticket::EVENTS],
 ) -> usize
     requires { ⌜ (n ≤ 40) × (at + 44 * n ≤ length (now out)) ⌝ }
     ensures { λ r. ⌜ Puts (each n (lineAt (now (owners .entry)) (now (opens .entry)) (now (closes .entry)))) (now (out .entry)) (now (out .exit)) at r ⌝ }
