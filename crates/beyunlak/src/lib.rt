@@ -1,10 +1,13 @@
-// The two functions that a host program in C calls: planning and commitment on numbers and byte slices.
-// Each holds the scratch that crate `plan` works in, so that number 10 says that the output is too short. Nobody sees it, so it is not cleared.
+// The three functions that a host program in C calls: planning and commitment on numbers and byte slices, and the table of distances.
+// The first two hold the scratch that crate `plan` works in, so that number 10 says that the output is too short. Nobody sees it, so it is not cleared.
 ghost use mathlib.Core.Path.{_≡_};
+ghost use mathlib.Core.List.{map};
 ghost use lib.ListN.{length, replicate};
 ghost use Rattle.runs.specs.Calls.{planning, committing};
+ghost use Rattle.temporal.specs.Table.{tableOf};
+ghost use Rattle.table.specs.Lent.{ruleOf};
 
-// The least output.
+// The least output of planning and commitment.
 const RECORD_BYTES: usize = 1948;
 
 // The scratch of a call; as a call's result it is no list of 1,824 literals in the proofs.
@@ -46,4 +49,17 @@ pub extern "C" fn beyunlak_commit(
     let mut lent = scratch();
     let committed = plan::commit_bytes(record, event, open, close, out, &mut lent);
     committed.number
+}
+
+// The table of distances of a session, row by row, at the start of `out`. The answer is 0, or the number of the first cause to refuse.
+#[no_mangle]
+pub extern "C" fn beyunlak_table(
+    horizon: u32,
+    events: u32,
+    rules: &[table::Rule],
+    out: &mut [i32],
+) -> u32
+    ensures { λ r. ⌜ (r, now (out .exit)) ≡ tableOf horizon events (map ruleOf (now (rules .entry))) (now (out .entry)) ⌝ }
+{
+    table::table(horizon, events, rules, out)
 }
