@@ -1,4 +1,4 @@
--- The ticket struct of given values: as many of each slice as the struct has places, and zeros where a slice is shorter.
+-- The structs of given values: as many of each slice as a struct has places, and zeros where a slice is shorter.
 use Prim.Native.Nat.{ℕ, _+_, _≤_, _<_, min}
 use mathlib.Core.Path.{_≡_, sym, ap, _∙_}
 use mathlib.Core.List.{List}
@@ -12,6 +12,7 @@ use Rattle.temporal.specs.Lists.{below-or-not}
 use Rattle.ticket.specs.Stored.{pad}
 use Rattle.ticket.specs.Laws.{pad-set}
 use Rattle.ticket.specs.declared.Ticket.{Ticket}
+use Rattle.ticket.specs.declared.Record.{Record}
 
 -- The first k of s, then z.
 abbrev pub placed : {A : Type 0} → A → ℕ → List A → List A
@@ -28,6 +29,9 @@ valued h n os m fs ts bs =
       to = placed 0 256 ts;
       bound = placed (pos 0) 256 bs;
     }
+
+abbrev pub recorded : Ticket → List ℕ → List ℕ → List ℕ → ℕ → Record
+recorded t fs os cs k = record { ticket = t; flags = placed 0 40 fs; opens = placed 0 40 os; closes = placed 0 40 cs; number = k }
 
 -- One more.
 pub placed-more : {A : Type 0} (z : A) (k : ℕ) (s : List A) (i : ℕ) → i < length s → i < k
@@ -49,3 +53,7 @@ placed-all z k s i e =
 pub valued-of : (h n m : ℕ) (o os f fs t ts : List ℕ) (b bs : List ℤ) → o ≡ placed 0 40 os → f ≡ placed 0 256 fs → t ≡ placed 0 256 ts → b ≡ placed (pos 0) 256 bs
     → _≡_ {A = Ticket} (record { horizon = h; events = n; owners = o; rules = m; from = f; to = t; bound = b }) (valued h n os m fs ts bs)
 valued-of h n m o os f fs t ts b bs eo ef et eb = rw (eo, ef, et, eb)
+
+pub recorded-of : (t v : Ticket) (f fs o os c cs : List ℕ) (k : ℕ) → t ≡ v → f ≡ placed 0 40 fs → o ≡ placed 0 40 os → c ≡ placed 0 40 cs
+    → _≡_ {A = Record} (record { ticket = t; flags = f; opens = o; closes = c; number = k }) (recorded v fs os cs k)
+recorded-of t v f fs o os c cs k et ef eo ec = rw (et, ef, eo, ec)

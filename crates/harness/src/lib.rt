@@ -1,16 +1,12 @@
-// What the tests call beside the two functions of crate `beyunlak`: planning and commitment with lent scratch, the table, reading a ticket
-// or a record and writing it back, and writing a ticket of given values. Each answers the refusal number; a second result is stored through a reference.
+// What the tests call beside the three functions of crate `beyunlak`: planning and commitment with lent scratch, reading a ticket or a record and
+// writing it back, and writing a ticket or a record of given values. Each answers the refusal number; a second result is stored through a reference.
 ghost use mathlib.Core.Path.{_≡_};
-ghost use Prim.Native.Nat.{min};
-ghost use lib.ListN.{length};
 ghost use lib.IntN.{pos};
 ghost use Rattle.ticket.specs.Format.{readTicket, readState};
-ghost use Rattle.ticket.specs.Writing.{writtenOf, outputOf};
-ghost use Rattle.temporal.specs.Table.{tableOf};
-ghost use Rattle.table.specs.Lent.{rulesOf};
+ghost use Rattle.ticket.specs.Writing.{writtenOf, outputOf, recordWritten, recordOutput};
 ghost use Rattle.runs.specs.Calls.{planning, committing};
 ghost use Rattle.harness.specs.Rewriting.{rewriting};
-ghost use Rattle.harness.specs.Values.{placed, valued};
+ghost use Rattle.harness.specs.Values.{placed, valued, recorded};
 ghost use Rattle.harness.specs.Rewriting.{narrow as Rewriting·narrow};
 
 fn narrow(x: usize) -> u32
@@ -65,22 +61,6 @@ pub extern "C" fn harness_commit(
 }
 
 #[no_mangle]
-pub extern "C" fn harness_table(
-    horizon: u32,
-    events: u32,
-    from: &[u8],
-    to: &[u8],
-    bound: &[i32],
-    out: &mut [i32],
-) -> u32
-    ensures { λ r.
-        ⌜ (r, now (out .exit))
-        ≡ tableOf horizon events (rulesOf (min (length (now (from .entry))) (min (length (now (to .entry))) (length (now (bound .entry))))) (now (from .entry)) (now (to .entry)) (now (bound .entry))) (now (out .entry)) ⌝ }
-{
-    table::table_of_slices(horizon, events, from, to, bound, out)
-}
-
-#[no_mangle]
 pub extern "C" fn harness_rewrite_ticket(ticket: &[u8], out: &mut [u8], size: &mut u32) -> u32
     ensures { λ r. ⌜ r ≡ rewriting 1584 readTicket (now (ticket .entry)) (now (out .entry)) .number ⌝ }
     ensures { λ _. ⌜ now (out .exit) ≡ rewriting 1584 readTicket (now (ticket .entry)) (now (out .entry)) .out ⌝ }
@@ -124,8 +104,8 @@ pub extern "C" fn harness_rewrite_record(record: &[u8], out: &mut [u8], size: &m
     written.number
 }
 
-// The first 40 numbers of s, then zeros; and so the first 256.
-fn owner_places(s: &[u8]) -> [u8; 40]
+// The first 40 numbers of s, then zeros; and so the first 256. Owners and flags are bytes.
+fn byte_places(s: &[u8]) -> [u8; 40]
     ensures { λ r. ⌜ r ≡ placed 0 40 (now (s .entry)) ⌝ }
 {
     let mut places = [0u8; 40];
@@ -165,6 +145,46 @@ fn bound_places(s: &[i32]) -> [i32; 256]
     places
 }
 
+fn tick_places(s: &[u32]) -> [u32; 40]
+    ensures { λ r. ⌜ r ≡ placed 0 40 (now (s .entry)) ⌝ }
+{
+    let mut places = [0u32; 40];
+    let n = table::lesser(s.len(), 40);
+    let mut i = 0;
+    while i < n {
+        places[i] = s[i];
+        i += 1;
+    }
+    places
+}
+
+// The ticket of these values.
+fn ticket_of(
+    horizon: u32,
+    events: u32,
+    owners: &[u8],
+    rules: u32,
+    from: &[u8],
+    to: &[u8],
+    bound: &[i32],
+) -> ticket::Ticket
+    ensures { λ r. ⌜ r ≡ valued horizon events (now (owners .entry)) rules (now (from .entry)) (now (to .entry)) (now (bound .entry)) ⌝ }
+{
+    let o = byte_places(owners);
+    let f = point_places(from);
+    let t = point_places(to);
+    let b = bound_places(bound);
+    ticket::Ticket {
+        horizon,
+        events: events as usize,
+        owners: o,
+        rules: rules as usize,
+        from: f,
+        to: t,
+        bound: b,
+    }
+}
+
 #[no_mangle]
 pub extern "C" fn harness_write_ticket(
     horizon: u32,
@@ -185,20 +205,54 @@ pub extern "C" fn harness_write_ticket(
         ⌜ now (size .exit)
         ≡ Rewriting·narrow (writtenOf (now (out .entry)) (valued horizon events (now (owners .entry)) rules (now (from .entry)) (now (to .entry)) (now (bound .entry))) .length) ⌝ }
 {
-    let o = owner_places(owners);
-    let f = point_places(from);
-    let t = point_places(to);
-    let b = bound_places(bound);
-    let ticket = ticket::Ticket {
-        horizon,
-        events: events as usize,
-        owners: o,
-        rules: rules as usize,
-        from: f,
-        to: t,
-        bound: b,
+    let t = ticket_of(horizon, events, owners, rules, from, to, bound);
+    let written = writing::write_ticket(t, out);
+    let n = written.length;
+    *size = narrow(n);
+    written.number
+}
+
+#[no_mangle]
+pub extern "C" fn harness_write_record(
+    horizon: u32,
+    events: u32,
+    owners: &[u8],
+    rules: u32,
+    from: &[u8],
+    to: &[u8],
+    bound: &[i32],
+    flags: &[u8],
+    opens: &[u32],
+    closes: &[u32],
+    number: u32,
+    out: &mut [u8],
+    size: &mut u32,
+) -> u32
+    ensures { λ r.
+        ⌜ r ≡ recordWritten (now (out .entry))
+        (recorded (valued horizon events (now (owners .entry)) rules (now (from .entry)) (now (to .entry)) (now (bound .entry)))
+        (now (flags .entry)) (now (opens .entry)) (now (closes .entry)) number) .number ⌝ }
+    ensures { λ _.
+        ⌜ now (out .exit) ≡ recordOutput (now (out .entry))
+        (recorded (valued horizon events (now (owners .entry)) rules (now (from .entry)) (now (to .entry)) (now (bound .entry)))
+        (now (flags .entry)) (now (opens .entry)) (now (closes .entry)) number) ⌝ }
+    ensures { λ _.
+        ⌜ now (size .exit) ≡ Rewriting·narrow (recordWritten (now (out .entry))
+        (recorded (valued horizon events (now (owners .entry)) rules (now (from .entry)) (now (to .entry)) (now (bound .entry)))
+        (now (flags .entry)) (now (opens .entry)) (now (closes .entry)) number) .length) ⌝ }
+{
+    let t = ticket_of(horizon, events, owners, rules, from, to, bound);
+    let f = byte_places(flags);
+    let o = tick_places(opens);
+    let c = tick_places(closes);
+    let record = ticket::Record {
+        ticket: t,
+        flags: f,
+        opens: o,
+        closes: c,
+        number,
     };
-    let written = writing::write_ticket(ticket, out);
+    let written = writing_records::write_record(record, out);
     let n = written.length;
     *size = narrow(n);
     written.number

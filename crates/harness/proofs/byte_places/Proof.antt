@@ -1,4 +1,4 @@
--- `harness::owner_places` meets its contract. The invariant: the first i places hold the first i numbers. Assumes nothing.
+-- `harness::byte_places` meets its contract. The invariant: the first i places hold the first i numbers. Assumes nothing.
 use Prim.Native.Nat.{_-_, _≤_}
 use mathlib.Core.Path.{_≡_, refl, ap, _∙_}
 use native.Mathlib.Omega.{arith}
@@ -6,8 +6,8 @@ use borrow.Author.Needs.{needs}
 use lib.ListN.{set, take, getD}
 use Rattle.ticket.specs.Stored.{pad}
 use Rattle.harness.specs.Values.{placed-more, placed-all}
-use Rattle.harness.proofs.owner_places.Statement.{statement}
-use Rattle.harness.proofs.owner_places.Tie as tie
+use Rattle.harness.proofs.byte_places.Statement.{statement}
+use Rattle.harness.proofs.byte_places.Tie as tie
 
 abbrev Inv-loop : tie.InvT-loop
 Inv-loop s places₀ n i₀ places i = (i ≤ n) × (places ≡ pad 0 40 (take i s))
@@ -28,8 +28,8 @@ loop-again c =
 returns : tie.Need-returns Inv-loop μ-loop
 returns c = c .before .loop .inv .1 ∙ placed-all 0 40 (c .before .before .before .before .args .s .now) (c .before .loop .i) (omega arith)
 
-pub owner-places-spec : {M : Type 1} → statement M
-owner-places-spec =
+pub byte-places-spec : {M : Type 1} → statement M
+byte-places-spec =
     tie.close
     (tie.spec
     Inv-loop
