@@ -2,7 +2,7 @@
 
 use crate::generate::{self, Structure, STRUCTURES};
 use crate::library::Library;
-use crate::model::calls::{self, Loose};
+use crate::model::calls::{self, Loose, LooseRecord};
 use crate::model::{reading, writing, Commitment, Record, Rule, Solver, Ticket};
 use crate::random::Random;
 use crate::trial::{Lengths, Report, Trial, ENOUGH};
@@ -25,9 +25,13 @@ pub enum Kind {
     Lengths,
     /// Table and writing with values that no ticket holds.
     Values,
+    /// Writing records with values that no record holds.
+    Records,
+    /// What the program prints for tickets and other bytes.
+    Text,
 }
 
-pub const KINDS: [Kind; 8] = [
+pub const KINDS: [Kind; 10] = [
     Kind::Tiny,
     Kind::Structures,
     Kind::Runs,
@@ -36,6 +40,8 @@ pub const KINDS: [Kind; 8] = [
     Kind::Prefixes,
     Kind::Lengths,
     Kind::Values,
+    Kind::Records,
+    Kind::Text,
 ];
 
 impl Kind {
@@ -49,6 +55,8 @@ impl Kind {
             Kind::Prefixes => "prefixes",
             Kind::Lengths => "lengths",
             Kind::Values => "values",
+            Kind::Records => "records",
+            Kind::Text => "text",
         }
     }
 
@@ -66,7 +74,19 @@ impl Kind {
             840..=939 => Kind::Damaged,
             940..=943 => Kind::Prefixes,
             944..=946 => Kind::Lengths,
-            _ => Kind::Values,
+            947..=969 => Kind::Values,
+            970..=996 => Kind::Records,
+            _ => Kind::Text,
+        }
+    }
+
+    /// The numbers that the quick part has to reach in calls of this kind, beside those of all kinds together.
+    pub fn numbers(self) -> &'static [usize] {
+        match self {
+            Kind::Values => &[0, 2, 3, 4, 5, 6, 7, 9, 10],
+            Kind::Records => &[0, 2, 3, 4, 5, 6, 7, 10, 14],
+            Kind::Text => &[0, 1, 2, 3, 4, 5, 6, 7, 8, 9],
+            _ => &[],
         }
     }
 }
@@ -83,6 +103,8 @@ pub fn run(kind: Kind, seed: u64, library: &dyn Library) -> Report {
         Kind::Prefixes => prefixes(&mut trial),
         Kind::Lengths => lengths(&mut trial),
         Kind::Values => values(&mut trial),
+        Kind::Records => records(&mut trial),
+        Kind::Text => text(&mut trial, seed),
     }
     trial.report
 }
@@ -251,69 +273,151 @@ fn values(trial: &mut Trial) {
         let random = &mut trial.random;
         let (n, horizon) = generate::size(random);
         let structure = random.pick(&STRUCTURES);
-        let ticket = generate::ticket(structure, n, horizon, random);
-        let mut rules = ticket.rules;
-        let mut events = n as u32;
-        let mut horizon = horizon;
-        let mut owners = [0; 40];
-        owners[..n].copy_from_slice(&ticket.owners);
-        for _ in 0..random.below(3) {
-            disturb(&mut horizon, &mut events, &mut owners, &mut rules, random);
-        }
+        let values = Values::of(&generate::ticket(structure, n, horizon, random), random);
         let length = some_length(calls::TABLE, random);
         let out = some_length(calls::TICKET, random);
-        let loose = loosened(horizon, events, owners, &rules, random);
-        trial.table(horizon, events, &rules, length);
+        let loose = values.loosened(random);
+        trial.table(values.horizon, values.events, &values.rules, length);
         trial.write_ticket(&loose, out);
     }
 }
 
-/// One value at or past a limit.
-fn disturb(horizon: &mut u32, events: &mut u32, owners: &mut [u8; 40], rules: &mut Vec<Rule>, random: &mut Random) {
-    let n = *events as usize;
-    match random.below(7) {
-        0 => *horizon = random.pick(&[1_000_000, 1_000_001, 16_777_216, u32::MAX]),
-        1 => *events = random.pick(&[0, 39, 40, 41, 255, 256, 65_536, u32::MAX]),
-        2 => owners[random.below(40)] = random.pick(&[4, 5, 255]),
-        3 => {
-            let rule = Rule { from: 0, to: 1, bound: 1_000_000 };
-            rules.resize(random.pick(&[255, 256, 257, 300]), rule);
+/// Records of any values are written.
+fn records(trial: &mut Trial) {
+    for _ in 0..4 {
+        let random = &mut trial.random;
+        let (n, horizon) = generate::size(random);
+        let structure = random.pick(&STRUCTURES);
+        let ticket = generate::ticket(structure, n, horizon, random);
+        let record = generate::foreign_record(ticket, random);
+        let values = Values::of(&record.ticket, random);
+        let mut loose = loosened_record(values.loosened(random), &record, random);
+        if random.chance(50) {
+            disturb_windows(&mut loose, random);
         }
-        _ if rules.is_empty() => {}
-        4 => {
-            let k = random.below(rules.len());
-            rules[k].from = random.pick(&[0, n.min(255) as u8, (n + 1).min(255) as u8, 255]);
-        }
-        5 => {
-            let k = random.below(rules.len());
-            rules[k].to = random.pick(&[rules[k].from, (n + 1).min(255) as u8, 255]);
-        }
-        _ => {
-            let k = random.below(rules.len());
-            rules[k].bound = random.pick(&[-1_000_000, -1_000_001, 1_000_001, 1_000_000, i32::MIN, i32::MAX]);
-        }
+        let out = some_length(calls::RECORD, random);
+        trial.write_record(&loose, out);
     }
 }
 
-/// The ticket's arrays; by chance the count of rules is not that of the list, and places past it are not 0.
-fn loosened(horizon: u32, events: u32, owners: [u8; 40], rules: &[Rule], random: &mut Random) -> Loose {
-    let count = if random.chance(90) { rules.len() as u32 } else { random.pick(&[0, 256, 257, 65_536, u32::MAX]) };
+/// The program on tickets that it plans and on bytes that it refuses, some of them longer than any ticket.
+fn text(trial: &mut Trial, seed: u64) {
+    let random = &mut trial.random;
+    let (n, horizon) = generate::size(random);
+    let structure = STRUCTURES[seed as usize % STRUCTURES.len()];
+    let ticket = writing::ticket(&generate::ticket(structure, n, horizon, random));
+    let mut longer = ticket.clone();
+    longer.resize(random.pick(&[1_585, 1_586, 4_096, 70_000]), random.next() as u8);
+    let length = random.below(ticket.len() + 1);
+    let damaged = generate::damaged(&ticket, random);
+    for bytes in [&ticket, &longer, &damaged] {
+        trial.printed(bytes);
+    }
+    trial.printed(&ticket[..length]);
+}
+
+/// What a ticket is made of, not all of it in range.
+struct Values {
+    horizon: u32,
+    events: u32,
+    owners: [u8; 40],
+    rules: Vec<Rule>,
+}
+
+impl Values {
+    /// Those of this ticket, up to two of them at or past a limit.
+    fn of(ticket: &Ticket, random: &mut Random) -> Values {
+        let mut owners = [0; 40];
+        owners[..ticket.events()].copy_from_slice(&ticket.owners);
+        let (horizon, events) = (ticket.horizon, ticket.events() as u32);
+        let mut values = Values { horizon, events, owners, rules: ticket.rules.clone() };
+        for _ in 0..random.below(3) {
+            values.disturb(random);
+        }
+        values
+    }
+
+    /// One value at or past a limit.
+    fn disturb(&mut self, random: &mut Random) {
+        let n = self.events as usize;
+        match random.below(7) {
+            0 => self.horizon = random.pick(&[1_000_000, 1_000_001, 16_777_216, u32::MAX]),
+            1 => self.events = random.pick(&[0, 39, 40, 41, 255, 256, 65_536, u32::MAX]),
+            2 => self.owners[random.below(40)] = random.pick(&[4, 5, 255]),
+            3 => {
+                let rule = Rule { from: 0, to: 1, bound: 1_000_000 };
+                self.rules.resize(random.pick(&[255, 256, 257, 300]), rule);
+            }
+            _ if self.rules.is_empty() => {}
+            kind => {
+                let k = random.below(self.rules.len());
+                let rule = &mut self.rules[k];
+                let after = (n + 1).min(255) as u8;
+                match kind {
+                    4 => rule.from = random.pick(&[0, n.min(255) as u8, after, 255]),
+                    5 => rule.to = random.pick(&[rule.from, after, 255]),
+                    _ => rule.bound = random.pick(&[-1_000_000, -1_000_001, 1_000_001, 1_000_000, i32::MIN, i32::MAX]),
+                }
+            }
+        }
+    }
+
+    /// In arrays; by chance the count of rules is not that of the list, and places past it are not 0.
+    fn loosened(&self, random: &mut Random) -> Loose {
+        let listed = self.rules.len() as u32;
+        let count = if random.chance(90) { listed } else { random.pick(&[0, 256, 257, 65_536, u32::MAX]) };
+        let rest = random.pick(&[0, 0, 1, 255]);
+        let mut loose = Loose {
+            horizon: self.horizon,
+            events: self.events,
+            owners: self.owners,
+            rules: count,
+            from: [rest; 256],
+            to: [rest; 256],
+            bound: [-(rest as i32) * 9_000_000; 256],
+        };
+        for (k, rule) in self.rules.iter().take(256).enumerate() {
+            loose.from[k] = rule.from;
+            loose.to[k] = rule.to;
+            loose.bound[k] = rule.bound;
+        }
+        loose
+    }
+}
+
+/// The windows of a record beside these values; by chance places past them are not 0.
+fn loosened_record(ticket: Loose, record: &Record, random: &mut Random) -> LooseRecord {
     let rest = random.pick(&[0, 0, 1, 255]);
-    let mut loose = Loose {
-        horizon,
-        events,
-        owners,
-        rules: count,
-        from: [rest; 256],
-        to: [rest; 256],
-        bound: [-(rest as i32) * 9_000_000; 256],
+    let mut loose = LooseRecord {
+        ticket,
+        flags: [rest; 40],
+        opens: [rest as u32; 40],
+        closes: [rest as u32; 40],
+        number: record.accepted as u32,
     };
-    for (k, rule) in rules.iter().take(256).enumerate() {
-        loose.from[k] = rule.from;
-        loose.to[k] = rule.to;
-        loose.bound[k] = rule.bound;
+    for (k, (window, &committed)) in record.windows.iter().zip(&record.committed).enumerate() {
+        loose.flags[k] = committed as u8;
+        loose.opens[k] = window.open;
+        loose.closes[k] = window.close;
     }
     loose
+}
+
+/// One value after the ticket at or past a limit.
+fn disturb_windows(loose: &mut LooseRecord, random: &mut Random) {
+    let horizon = loose.ticket.horizon;
+    let k = random.below((loose.ticket.events as usize).clamp(1, 40));
+    match random.below(6) {
+        0 => loose.flags[k] = random.pick(&[0, 1, 2, 255]),
+        1 => loose.opens[k] = random.pick(&[0, loose.closes[k], loose.closes[k].saturating_add(1), u32::MAX]),
+        2 => loose.closes[k] = random.pick(&[0, loose.opens[k], loose.opens[k].saturating_sub(1)]),
+        3 => loose.closes[k] = random.pick(&[horizon, horizon.saturating_add(1), u32::MAX]),
+        4 => loose.number = random.pick(&[0, loose.number + 1, loose.number + 65_536, u32::MAX]),
+        _ => {
+            loose.flags[k] = 1 - loose.flags[k].min(1);
+            loose.number = random.pick(&[loose.number, loose.number + 1]);
+        }
+    }
 }
 
 /// The least length, one more or less, or far from it.

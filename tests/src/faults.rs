@@ -1,8 +1,8 @@
 //! Libraries with one planted fault each. The self-check has the quick part find every one of them.
 
 use crate::library::{self, Library, Model};
-use crate::model::calls::{self, Answer, Loose, Outcome};
-use crate::model::{distances, reading, writing, Commitment, Range, Record, Rule, Solver, Ticket, Window};
+use crate::model::calls::{self, Answer, Loose, LooseRecord, Outcome};
+use crate::model::{distances, reading, text, writing, Commitment, Range, Record, Rule, Solver, Ticket, Window};
 
 #[derive(Clone, Copy, Debug, PartialEq, Eq)]
 pub enum Fault {
@@ -44,11 +44,19 @@ pub enum Fault {
     DirtyScratch,
     /// The table leaves out paths through the last event.
     TableStops,
+    /// The table takes each rule from its second point to its first.
+    TableTurned,
+    /// A number after the table is cleared.
+    TableTouchesRest,
+    /// A record is written though a window closes after the horizon.
+    WritesLateWindow,
+    /// Printed events are numbered from 0.
+    PrintsFromZero,
     /// Whether the window lies inside is looked at before whether the event is committed.
     InsideFirst,
 }
 
-pub const FAULTS: [Fault; 20] = [
+pub const FAULTS: [Fault; 24] = [
     Fault::RefusesAll,
     Fault::OnePlan,
     Fault::Silent,
@@ -68,6 +76,10 @@ pub const FAULTS: [Fault; 20] = [
     Fault::TouchesRest,
     Fault::DirtyScratch,
     Fault::TableStops,
+    Fault::TableTurned,
+    Fault::TableTouchesRest,
+    Fault::WritesLateWindow,
+    Fault::PrintsFromZero,
     Fault::InsideFirst,
 ];
 
@@ -264,6 +276,25 @@ fn middles_fit(record: &Record) -> bool {
     record.ticket.rules.iter().all(|r| middle(r.to) - middle(r.from) <= r.bound as i64)
 }
 
+/// The record with windows that close at the horizon at the latest.
+fn cut_at_horizon(loose: &LooseRecord) -> LooseRecord {
+    let mut cut = loose.clone();
+    cut.closes.iter_mut().for_each(|close| *close = (*close).min(loose.ticket.horizon));
+    cut
+}
+
+/// The text with each event's number one less.
+fn from_zero(text: String) -> String {
+    let line = |line: &str| match line.split_once(' ') {
+        Some((event, rest)) => match event.parse::<u32>() {
+            Ok(event) => format!("{} {rest}\n", event - 1),
+            Err(_) => format!("{line}\n"),
+        },
+        None => format!("{line}\n"),
+    };
+    text.lines().map(line).collect()
+}
+
 impl Library for Faulty {
     fn plan_door(&self, ticket: &[u8], out: &mut [u8]) -> u32 {
         self.delivered(|| self.planned(ticket), out, &mut vec![0; calls::SCRATCH]).number
@@ -282,13 +313,20 @@ impl Library for Faulty {
     }
 
     fn table(&self, horizon: u32, events: u32, rules: &[Rule], out: &mut [i32]) -> u32 {
-        let number = Model.table(horizon, events, rules, out);
+        let turned: Vec<Rule> = rules.iter().map(|r| Rule { from: r.to, to: r.from, bound: r.bound }).collect();
+        let number = match self.fault {
+            Fault::TableTurned => Model.table(horizon, events, &turned, out),
+            _ => Model.table(horizon, events, rules, out),
+        };
+        let size = events as usize + 1;
+        if self.fault == Fault::TableTouchesRest && number == 0 && size * size < out.len() {
+            out[size * size] = 0;
+        }
         if self.fault == Fault::TableStops && number == 0 && events >= 3 {
             let around = |r: &&Rule| r.from as u32 != events && r.to as u32 != events;
             let fewer: Vec<Rule> = rules.iter().filter(around).copied().collect();
             let mut without = vec![0; out.len()];
             Model.table(horizon, events, &fewer, &mut without);
-            let size = events as usize + 1;
             for i in 0..size - 1 {
                 let row = i * size..i * size + size - 1;
                 out[row.clone()].copy_from_slice(&without[row]);
@@ -315,7 +353,23 @@ impl Library for Faulty {
         }
     }
 
-    fn write_ticket(&self, loose: &Loose, out: &mut [u8]) -> Option<(u32, u32)> {
+    fn write_ticket(&self, loose: &Loose, out: &mut [u8]) -> (u32, u32) {
         Model.write_ticket(loose, out)
+    }
+
+    fn write_record(&self, loose: &LooseRecord, out: &mut [u8]) -> (u32, u32) {
+        match self.fault {
+            Fault::WritesLateWindow => Model.write_record(&cut_at_horizon(loose), out),
+            _ => Model.write_record(loose, out),
+        }
+    }
+
+    fn printed(&self, ticket: &[u8]) -> String {
+        let text = text::printed(ticket);
+        if self.fault == Fault::PrintsFromZero {
+            from_zero(text)
+        } else {
+            text
+        }
     }
 }

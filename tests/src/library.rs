@@ -1,10 +1,10 @@
 //! The functions under test, behind one trait: the linked library, or the model standing in for it.
 
-use crate::model::calls::{self, Answer, Loose, Outcome};
-use crate::model::{Commitment, Rule, Solver};
+use crate::model::calls::{self, Answer, Loose, LooseRecord, Outcome};
+use crate::model::{text, Commitment, Rule, Solver};
 
 pub trait Library: Sync {
-    /// The two C doors: the refusal number only.
+    /// The two C doors on bytes: the refusal number only.
     fn plan_door(&self, ticket: &[u8], out: &mut [u8]) -> u32;
     fn commit_door(&self, record: &[u8], commitment: Commitment, out: &mut [u8]) -> u32;
 
@@ -12,14 +12,19 @@ pub trait Library: Sync {
     fn plan(&self, ticket: &[u8], out: &mut [u8], scratch: &mut [u32]) -> Answer;
     fn commit(&self, record: &[u8], commitment: Commitment, out: &mut [u8], scratch: &mut [u32]) -> Answer;
 
+    /// The C door of the table.
     fn table(&self, horizon: u32, events: u32, rules: &[Rule], out: &mut [i32]) -> u32;
 
     /// Reading and then writing: number and length.
     fn rewrite_ticket(&self, ticket: &[u8], out: &mut [u8]) -> (u32, u32);
     fn rewrite_record(&self, record: &[u8], out: &mut [u8]) -> (u32, u32);
 
-    /// Writing a ticket of any values; none where the library has no such export.
-    fn write_ticket(&self, loose: &Loose, out: &mut [u8]) -> Option<(u32, u32)>;
+    /// Writing a ticket or a record of any values: number and length.
+    fn write_ticket(&self, loose: &Loose, out: &mut [u8]) -> (u32, u32);
+    fn write_record(&self, loose: &LooseRecord, out: &mut [u8]) -> (u32, u32);
+
+    /// What the program prints for these bytes.
+    fn printed(&self, ticket: &[u8]) -> String;
 }
 
 /// The model as a library. A faulty library overrides `planned`, `committed` and the rest.
@@ -62,7 +67,15 @@ impl Library for Model {
         calls::rewrite_record(record, out)
     }
 
-    fn write_ticket(&self, loose: &Loose, out: &mut [u8]) -> Option<(u32, u32)> {
-        Some(calls::write_ticket(loose, out))
+    fn write_ticket(&self, loose: &Loose, out: &mut [u8]) -> (u32, u32) {
+        calls::write_ticket(loose, out)
+    }
+
+    fn write_record(&self, loose: &LooseRecord, out: &mut [u8]) -> (u32, u32) {
+        calls::write_record(loose, out)
+    }
+
+    fn printed(&self, ticket: &[u8]) -> String {
+        text::printed(ticket)
     }
 }

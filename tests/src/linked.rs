@@ -1,8 +1,18 @@
-//! The static libraries libbeyunlak.a and libharness.a. A slice passes as its pointer and its length.
+//! The static libraries libbeyunlak.a and libharness.a, and the program. A slice passes as its pointer and its length.
 
 use crate::library::Library;
-use crate::model::calls::{Answer, Loose};
+use crate::model::calls::{Answer, Loose, LooseRecord};
 use crate::model::{Commitment, Rule};
+use std::io::Write;
+use std::process::{Command, Stdio};
+
+/// The header's struct of a rule.
+#[repr(C)]
+struct LentRule {
+    from: u8,
+    to: u8,
+    bound: i32,
+}
 
 extern "C" {
     fn beyunlak_plan(ticket: *const u8, ticket_len: usize, out: *mut u8, out_len: usize) -> u32;
@@ -13,6 +23,14 @@ extern "C" {
         open: u32,
         close: u32,
         out: *mut u8,
+        out_len: usize,
+    ) -> u32;
+    fn beyunlak_table(
+        horizon: u32,
+        events: u32,
+        rules: *const LentRule,
+        rules_len: usize,
+        out: *mut i32,
         out_len: usize,
     ) -> u32;
     fn harness_plan(
@@ -38,18 +56,6 @@ extern "C" {
         length: *mut u32,
         total: *mut u32,
     ) -> u32;
-    fn harness_table(
-        horizon: u32,
-        events: u32,
-        from: *const u8,
-        from_len: usize,
-        to: *const u8,
-        to_len: usize,
-        bound: *const i32,
-        bound_len: usize,
-        out: *mut i32,
-        out_len: usize,
-    ) -> u32;
     fn harness_rewrite_ticket(
         ticket: *const u8,
         ticket_len: usize,
@@ -64,7 +70,6 @@ extern "C" {
         out_len: usize,
         length: *mut u32,
     ) -> u32;
-    #[cfg(write_ticket)]
     fn harness_write_ticket(
         horizon: u32,
         events: u32,
@@ -81,6 +86,47 @@ extern "C" {
         out_len: usize,
         length: *mut u32,
     ) -> u32;
+    fn harness_write_record(
+        horizon: u32,
+        events: u32,
+        owners: *const u8,
+        owners_len: usize,
+        rules: u32,
+        from: *const u8,
+        from_len: usize,
+        to: *const u8,
+        to_len: usize,
+        bound: *const i32,
+        bound_len: usize,
+        flags: *const u8,
+        flags_len: usize,
+        opens: *const u32,
+        opens_len: usize,
+        closes: *const u32,
+        closes_len: usize,
+        number: u32,
+        out: *mut u8,
+        out_len: usize,
+        length: *mut u32,
+    ) -> u32;
+}
+
+/// The program, from the root of the repository, where tests/run starts this one.
+const PLANNER: &str = "target/bin/planner";
+
+/// What the program prints: standard output, then standard error, which has to stay empty, and a status that is not 0.
+fn run_planner(ticket: &[u8]) -> std::io::Result<String> {
+    let mut command = Command::new(PLANNER);
+    let mut program = command.stdin(Stdio::piped()).stdout(Stdio::piped()).stderr(Stdio::piped()).spawn()?;
+    // The program stops reading after the longest ticket and a byte: what it leaves in the pipe is no error.
+    let _ = program.stdin.take().map(|mut pipe| pipe.write_all(ticket));
+    let output = program.wait_with_output()?;
+    let mut text = String::from_utf8_lossy(&output.stdout).into_owned();
+    text += &String::from_utf8_lossy(&output.stderr);
+    if !output.status.success() {
+        text += &format!("{}\n", output.status);
+    }
+    Ok(text)
 }
 
 /// What a result holds before a call; each call has to write it.
@@ -136,23 +182,8 @@ impl Library for Linked {
     }
 
     fn table(&self, horizon: u32, events: u32, rules: &[Rule], out: &mut [i32]) -> u32 {
-        let from: Vec<u8> = rules.iter().map(|r| r.from).collect();
-        let to: Vec<u8> = rules.iter().map(|r| r.to).collect();
-        let bound: Vec<i32> = rules.iter().map(|r| r.bound).collect();
-        unsafe {
-            harness_table(
-                horizon,
-                events,
-                from.as_ptr(),
-                from.len(),
-                to.as_ptr(),
-                to.len(),
-                bound.as_ptr(),
-                bound.len(),
-                out.as_mut_ptr(),
-                out.len(),
-            )
-        }
+        let lent: Vec<LentRule> = rules.iter().map(|r| LentRule { from: r.from, to: r.to, bound: r.bound }).collect();
+        unsafe { beyunlak_table(horizon, events, lent.as_ptr(), lent.len(), out.as_mut_ptr(), out.len()) }
     }
 
     fn rewrite_ticket(&self, ticket: &[u8], out: &mut [u8]) -> (u32, u32) {
@@ -169,8 +200,7 @@ impl Library for Linked {
         (number, length)
     }
 
-    #[cfg(write_ticket)]
-    fn write_ticket(&self, loose: &Loose, out: &mut [u8]) -> Option<(u32, u32)> {
+    fn write_ticket(&self, loose: &Loose, out: &mut [u8]) -> (u32, u32) {
         let mut length = UNWRITTEN;
         let (owners, from, to, bound) = (&loose.owners, &loose.from, &loose.to, &loose.bound);
         let number = unsafe {
@@ -191,11 +221,41 @@ impl Library for Linked {
                 &mut length,
             )
         };
-        Some((number, length))
+        (number, length)
     }
 
-    #[cfg(not(write_ticket))]
-    fn write_ticket(&self, _loose: &Loose, _out: &mut [u8]) -> Option<(u32, u32)> {
-        None
+    fn write_record(&self, loose: &LooseRecord, out: &mut [u8]) -> (u32, u32) {
+        let mut length = UNWRITTEN;
+        let LooseRecord { ticket, flags, opens, closes, number } = loose;
+        let number = unsafe {
+            harness_write_record(
+                ticket.horizon,
+                ticket.events,
+                ticket.owners.as_ptr(),
+                ticket.owners.len(),
+                ticket.rules,
+                ticket.from.as_ptr(),
+                ticket.from.len(),
+                ticket.to.as_ptr(),
+                ticket.to.len(),
+                ticket.bound.as_ptr(),
+                ticket.bound.len(),
+                flags.as_ptr(),
+                flags.len(),
+                opens.as_ptr(),
+                opens.len(),
+                closes.as_ptr(),
+                closes.len(),
+                *number,
+                out.as_mut_ptr(),
+                out.len(),
+                &mut length,
+            )
+        };
+        (number, length)
+    }
+
+    fn printed(&self, ticket: &[u8]) -> String {
+        run_planner(ticket).unwrap_or_else(|error| format!("{PLANNER}: {error}"))
     }
 }

@@ -22,7 +22,7 @@ use std::time::Instant;
 use trial::Report;
 
 /// How many seeds of each kind the quick part tries.
-const QUICK: [(Kind, u64); 8] = [
+const QUICK: [(Kind, u64); 10] = [
     (Kind::Tiny, 4_000),
     (Kind::Structures, 3_600),
     (Kind::Runs, 150),
@@ -31,12 +31,14 @@ const QUICK: [(Kind, u64); 8] = [
     (Kind::Prefixes, 60),
     (Kind::Lengths, 12),
     (Kind::Values, 4_000),
+    (Kind::Records, 4_000),
+    (Kind::Text, 150),
 ];
 
 const USAGE: &str = "\
 tests/run quick                      stored cases and some thousand seeds: the gate's part
 tests/run long SEED COUNT [THREADS]  seeds from SEED on until COUNT calls are made
-tests/run one KIND SEED              one case: tiny structures runs foreign damaged prefixes lengths values
+tests/run one KIND SEED              one case: tiny structures runs foreign damaged prefixes lengths values records text
 tests/run solvers SEED COUNT         the two solvers of the model against each other
 tests/run self-check                 libraries with a planted fault: each has to be caught";
 
@@ -102,6 +104,13 @@ impl Tally {
         format!("calls by kind: {}", counts.collect::<Vec<_>>().join(", "))
     }
 
+    /// A case of its own: every one of these numbers was answered.
+    fn reached(&mut self, name: &str, numbers: &[usize]) {
+        let unseen = numbers.iter().filter(|&&number| self.numbers[number] == 0);
+        let differences = unseen.map(|number| format!("no call is answered {number}")).collect();
+        self.add(name, Report { differences, ..Report::default() });
+    }
+
     fn last_line(&self) -> i32 {
         println!("{} passed, {} failed", self.passed, self.failed);
         (self.failed > 0) as i32
@@ -151,14 +160,16 @@ fn quick(library: &dyn Library) -> i32 {
     println!("solvers of the model: {agreed} tickets and records");
     all.add("solvers", Report { differences, ..Report::default() });
     for (kind, count) in QUICK {
-        let tally = try_seeds(library, 1..count + 1, 2, |_| kind);
+        let mut tally = try_seeds(library, 1..count + 1, 2, |_| kind);
         println!("{}: {} cases, {} calls, {} failed", kind.name(), count, tally.calls, tally.failed);
+        if !kind.numbers().is_empty() {
+            println!("{}, {}", kind.name(), tally.numbers_line());
+            tally.reached(kind.name(), kind.numbers());
+        }
         all.join(tally);
     }
     println!("{}", all.numbers_line());
-    let unseen: Vec<String> =
-        (0..16).filter(|&n| all.numbers[n] == 0).map(|n| format!("no call is answered {n}")).collect();
-    all.add("numbers", Report { differences: unseen, ..Report::default() });
+    all.reached("all kinds", &std::array::from_fn::<usize, 16, _>(|number| number));
     println!("{} calls in {:.1} s", all.calls, start.elapsed().as_secs_f64());
     all.last_line()
 }

@@ -2,8 +2,8 @@
 
 use crate::lent::{Element, Lent};
 use crate::library::Library;
-use crate::model::calls::{self, Answer, Loose, Outcome};
-use crate::model::{reading, writing, Commitment, Record, Rule, Solver};
+use crate::model::calls::{self, Answer, Loose, LooseRecord, Outcome};
+use crate::model::{reading, text, writing, Commitment, Record, Rule, Solver};
 use crate::random::Random;
 
 /// Calls made, how many of them the model answers with each number, and the differences found.
@@ -156,29 +156,43 @@ impl<'a> Trial<'a> {
     pub fn rewrite_ticket(&mut self, ticket: &[u8], length: usize) {
         let library = self.library;
         let expected = |out: &mut [u8]| calls::rewrite_ticket(ticket, out);
-        self.rewriting("ticket", ticket, length, &expected, &|out| library.rewrite_ticket(ticket, out));
+        let call = |out: &mut [u8]| library.rewrite_ticket(ticket, out);
+        self.rewriting(&|| format!("ticket {}", hex(ticket)), length, &expected, &call);
     }
 
     pub fn rewrite_record(&mut self, record: &[u8], length: usize) {
         let library = self.library;
         let expected = |out: &mut [u8]| calls::rewrite_record(record, out);
-        self.rewriting("record", record, length, &expected, &|out| library.rewrite_record(record, out));
+        let call = |out: &mut [u8]| library.rewrite_record(record, out);
+        self.rewriting(&|| format!("record {}", hex(record)), length, &expected, &call);
     }
 
     pub fn write_ticket(&mut self, loose: &Loose, length: usize) {
         let library = self.library;
         let expected = |out: &mut [u8]| calls::write_ticket(loose, out);
-        if library.write_ticket(loose, &mut []).is_some() {
-            let call = |out: &mut [u8]| library.write_ticket(loose, out).unwrap_or_default();
-            self.rewriting("loose ticket", format!("{loose:?}").as_bytes(), length, &expected, &call);
-        }
+        let call = |out: &mut [u8]| library.write_ticket(loose, out);
+        self.rewriting(&|| format!("ticket {loose:?}"), length, &expected, &call);
     }
 
-    /// Number, length, bytes and rest; an accepted piece of bytes has to come back as it was.
+    pub fn write_record(&mut self, loose: &LooseRecord, length: usize) {
+        let library = self.library;
+        let expected = |out: &mut [u8]| calls::write_record(loose, out);
+        let call = |out: &mut [u8]| library.write_record(loose, out);
+        self.rewriting(&|| format!("record {loose:?}"), length, &expected, &call);
+    }
+
+    /// The whole text that the program prints for these bytes.
+    pub fn printed(&mut self, ticket: &[u8]) {
+        let expected = text::printed(ticket);
+        let given = self.library.printed(ticket);
+        self.count(expected.strip_prefix("refused ").map_or(0, |number| number.trim_end().parse().unwrap_or(0)));
+        self.expect(given == expected, "text", || format!("{} printed {given:?}, expected {expected:?}", hex(ticket)));
+    }
+
+    /// Number, length, bytes and rest of what is written; `what` says it.
     fn rewriting(
         &mut self,
-        kind: &str,
-        bytes: &[u8],
+        what: &dyn Fn() -> String,
         length: usize,
         expected: &dyn Fn(&mut [u8]) -> (u32, u32),
         rewrite: &dyn Fn(&mut [u8]) -> (u32, u32),
@@ -188,10 +202,10 @@ impl<'a> Trial<'a> {
         let answer = expected(&mut wanted);
         let given = rewrite(out.slice());
         self.count(answer.0);
-        let call = || format!("{kind} {} with {length} bytes answered {given:?}, expected {answer:?}", hex(bytes));
-        self.expect(given == answer, "written again", call);
-        self.expect(out.slice() == wanted, "written again", call);
-        self.expect(out.untouched_after(answer.1 as usize), "rest of what is written again", call);
+        let call = || format!("{} with {length} bytes answered {given:?}, expected {answer:?}", what());
+        self.expect(given == answer, "writing", call);
+        self.expect(out.slice() == wanted, "written", call);
+        self.expect(out.untouched_after(answer.1 as usize), "rest of what is written", call);
     }
 
     /// A record's claims that need no model: what a run says of flags, counts and kept windows.

@@ -1,6 +1,6 @@
 //! The calls: what is answered and written, from everything that is lent.
 
-use super::{distances, exhaustive, reading, writing, Commitment, Record, Rule, Solver, Ticket};
+use super::{distances, exhaustive, reading, writing, Commitment, Record, Rule, Solver, Ticket, Window};
 
 /// Least sizes: bytes of a ticket's and a record's output, numbers of scratch, numbers of a table.
 pub const TICKET: usize = 1_584;
@@ -151,18 +151,45 @@ pub struct Loose {
     pub bound: [i32; 256],
 }
 
-/// Writing of such a ticket: 10, then 2 to 7 as reading gives them.
+/// A record as a caller of writing may hand it over.
+#[derive(Clone, Debug)]
+pub struct LooseRecord {
+    pub ticket: Loose,
+    pub flags: [u8; 40],
+    pub opens: [u32; 40],
+    pub closes: [u32; 40],
+    pub number: u32,
+}
+
+/// What the places that count say; or 2 to 7 as reading gives them.
+fn said(loose: &Loose) -> Result<Ticket, u32> {
+    reading::horizon_in_range(loose.horizon)?;
+    reading::events_in_range(loose.events)?;
+    let owners = loose.owners[..loose.events as usize].to_vec();
+    owners.iter().try_for_each(|&owner| reading::owner_in_range(owner))?;
+    reading::rules_in_range(loose.rules)?;
+    let places = 0..loose.rules as usize;
+    let rules: Vec<Rule> =
+        places.map(|k| Rule { from: loose.from[k], to: loose.to[k], bound: loose.bound[k] }).collect();
+    rules.iter().try_for_each(|rule| reading::rule_in_range(rule, owners.len()))?;
+    Ok(Ticket { horizon: loose.horizon, owners, rules })
+}
+
+/// Writing of such a ticket: 10, then 2 to 7.
 pub fn write_ticket(loose: &Loose, out: &mut [u8]) -> (u32, u32) {
-    rewrite(out, TICKET, || {
-        reading::horizon_in_range(loose.horizon)?;
-        reading::events_in_range(loose.events)?;
-        let owners = loose.owners[..loose.events as usize].to_vec();
-        owners.iter().try_for_each(|&owner| reading::owner_in_range(owner))?;
-        reading::rules_in_range(loose.rules)?;
-        let places = 0..loose.rules as usize;
-        let rules: Vec<Rule> =
-            places.map(|k| Rule { from: loose.from[k], to: loose.to[k], bound: loose.bound[k] }).collect();
-        rules.iter().try_for_each(|rule| reading::rule_in_range(rule, owners.len()))?;
-        Ok(writing::ticket(&Ticket { horizon: loose.horizon, owners, rules }))
+    rewrite(out, TICKET, || said(loose).map(|ticket| writing::ticket(&ticket)))
+}
+
+/// Writing of such a record: 10, then 2 to 7 and 14 as reading gives them.
+pub fn write_record(loose: &LooseRecord, out: &mut [u8]) -> (u32, u32) {
+    rewrite(out, RECORD, || {
+        let ticket = said(&loose.ticket)?;
+        let places = 0..ticket.events();
+        let window = |k: usize| Window { open: loose.opens[k], close: loose.closes[k] };
+        places.clone().try_for_each(|k| reading::window_in_range(loose.flags[k], window(k), ticket.horizon))?;
+        let committed: Vec<bool> = places.clone().map(|k| loose.flags[k] == 1).collect();
+        reading::accepted_in_range(loose.number, &committed)?;
+        let windows = places.map(window).collect();
+        Ok(writing::record(&Record { ticket, committed, windows, accepted: loose.number as u16 }))
     })
 }

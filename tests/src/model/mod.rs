@@ -6,6 +6,7 @@ pub mod distances;
 pub mod exhaustive;
 pub mod flow;
 pub mod reading;
+pub mod text;
 pub mod writing;
 
 /// "Time of `to` minus time of `from` is at most `bound`."

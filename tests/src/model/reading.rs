@@ -56,6 +56,16 @@ pub fn rule_in_range(rule: &Rule, events: usize) -> Result<(), u32> {
     require((-1_000_000..=1_000_000).contains(&rule.bound), 7)
 }
 
+/// A window with its flag.
+pub fn window_in_range(flag: u8, window: Window, horizon: u32) -> Result<(), u32> {
+    require(flag <= 1 && window.open <= window.close && window.close <= horizon, 14)
+}
+
+/// The last number: that of the set flags.
+pub fn accepted_in_range(accepted: u32, committed: &[bool]) -> Result<(), u32> {
+    require(accepted as usize == committed.iter().filter(|&&flag| flag).count(), 14)
+}
+
 fn ticket_fields(fields: &mut Fields) -> Result<Ticket, u32> {
     let horizon = fields.number(4)?;
     horizon_in_range(horizon)?;
@@ -96,13 +106,13 @@ pub fn record(bytes: &[u8]) -> Result<Record, u32> {
     let mut windows = Vec::new();
     for _ in 0..ticket.events() {
         let field = fields.take(9)?;
-        let (open, close) = (little_endian(&field[1..5]), little_endian(&field[5..]));
-        require(field[0] <= 1 && open <= close && close <= ticket.horizon, 14)?;
+        let window = Window { open: little_endian(&field[1..5]), close: little_endian(&field[5..]) };
+        window_in_range(field[0], window, ticket.horizon)?;
         committed.push(field[0] == 1);
-        windows.push(Window { open, close });
+        windows.push(window);
     }
-    let accepted = fields.number(2)? as u16;
-    require(accepted as usize == committed.iter().filter(|&&flag| flag).count(), 14)?;
+    let accepted = fields.number(2)?;
+    accepted_in_range(accepted, &committed)?;
     require(fields.bytes.is_empty(), 8)?;
-    Ok(Record { ticket, committed, windows, accepted })
+    Ok(Record { ticket, committed, windows, accepted: accepted as u16 })
 }
