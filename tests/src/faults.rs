@@ -365,7 +365,7 @@ impl Library for Faulty {
     }
 
     fn printed(&self, ticket: &[u8]) -> String {
-        let text = text::printed(ticket);
+        let text = text::printed(&self.planned(ticket));
         if self.fault == Fault::PrintsFromZero {
             from_zero(text)
         } else {

@@ -76,6 +76,6 @@ impl Library for Model {
     }
 
     fn printed(&self, ticket: &[u8]) -> String {
-        text::printed(ticket)
+        text::printed(&planned(ticket))
     }
 }

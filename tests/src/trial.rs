@@ -183,9 +183,10 @@ impl<'a> Trial<'a> {
 
     /// The whole text that the program prints for these bytes.
     pub fn printed(&mut self, ticket: &[u8]) {
-        let expected = text::printed(ticket);
+        let outcome = calls::plan(ticket, self.solver);
+        let expected = text::printed(&outcome);
         let given = self.library.printed(ticket);
-        self.count(expected.strip_prefix("refused ").map_or(0, |number| number.trim_end().parse().unwrap_or(0)));
+        self.count(outcome.err().unwrap_or(0));
         self.expect(given == expected, "text", || format!("{} printed {given:?}, expected {expected:?}", hex(ticket)));
     }
 

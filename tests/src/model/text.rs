@@ -1,11 +1,10 @@
-//! What the program prints for the bytes on its standard input.
+//! What the program prints.
 
-use super::calls;
-use super::Solver;
+use super::calls::Outcome;
 
-/// "plan", event count, total, then event, owner, open, close; or "refused" and the number.
-pub fn printed(ticket: &[u8]) -> String {
-    let (record, total) = match calls::plan(ticket, Solver::Flow) {
+/// "plan", event count, total, then event, owner, open, close of each event; or "refused" and the number.
+pub fn printed(outcome: &Outcome) -> String {
+    let (record, total) = match outcome {
         Err(number) => return format!("refused {number}\n"),
         Ok(planned) => planned,
     };
