@@ -1,5 +1,6 @@
 # make           the library and the program, proved and built
 # make plan      the plan of $(TICKET), a ticket as text
+# make table     its table of distances, with the names of its events
 # make install   the header, the library and the pkg-config file, under $(PREFIX)
 PREFIX = /usr/local
 TICKET = examples/tickets/p1.txt
@@ -16,10 +17,15 @@ plan: program
 	tools/ticket encode $(TICKET) target/ticket
 	target/bin/planner <target/ticket
 
+table: library
+	$(CC) -std=c99 -O2 -Iinclude examples/table.c target/staticlib/libbeyunlak.a -o target/table
+	tools/ticket encode $(TICKET) target/ticket
+	target/table <target/ticket | tools/ticket table $(TICKET)
+
 install: library
 	install -d $(DESTDIR)$(PREFIX)/include $(DESTDIR)$(PREFIX)/lib/pkgconfig
 	install -m 644 include/beyunlak.h $(DESTDIR)$(PREFIX)/include
 	install -m 644 target/staticlib/libbeyunlak.a $(DESTDIR)$(PREFIX)/lib
 	sed 's,@PREFIX@,$(PREFIX),' beyunlak.pc.in >$(DESTDIR)$(PREFIX)/lib/pkgconfig/beyunlak.pc
 
-.PHONY: all library program plan install
+.PHONY: all library program plan table install

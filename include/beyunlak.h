@@ -4,7 +4,7 @@
  * A session has a horizon and up to 40 events, each owned by a device, and rules on the time between two
  * points. beyunlak_plan gives every event a window, so that each device may pick any tick of its own window
  * without asking the others and no rule is broken. beyunlak_commit fixes one event's window and widens the
- * others as far as that allows.
+ * others as far as that allows. beyunlak_table tells how far apart in time any two points can be.
  *
  * Link with libbeyunlak.a. It needs no other library, keeps nothing between two calls, allocates nothing
  * and makes no system call.
@@ -27,7 +27,7 @@
  *   rule from 2 to 1 with bound -5. A pair of points may have several rules.
  *   A ticket has 8 + n + 6m bytes, and nothing follows it.
  *
- * A RECORD, the output of both functions and the input of beyunlak_commit. T stands for 8 + n + 6m.
+ * A RECORD, the output of beyunlak_plan, and both input and output of beyunlak_commit. T stands for 8 + n + 6m.
  *     offset       bytes  field
  *     0            T      the ticket
  *     T            2      n again
@@ -40,17 +40,22 @@
  *   A window of width 0 (open = close) is one tick. The total width of a plan, the sum of close - open, is not
  *   stored: it follows from the windows.
  *
+ * A TABLE, the output of beyunlak_table: (n + 1) * (n + 1) signed numbers, row by row from point 0 on, so that
+ *   D(i, j) stands at place i * (n + 1) + j. D(i, j) is the largest time of j minus time of i, over all times
+ *   that keep the rules: the latest time of event i is D(0, i), its earliest -D(i, 0). D(i, i) is 0, and every
+ *   number lies in -horizon to horizon.
+ *
  * WHAT IS LEFT IN THE OUTPUT
- *   Answer 0: the record stands at the start of `out`; the bytes after it are as they were.
+ *   Answer 0: the record or the table stands at the start of `out`; what lies after it is as it was.
  *   Any other answer: all of `out` is as it was.
  *
  * WHAT A CALLER OWES
  *   - No pointer is null, not even one whose length is 0, and each length is true.
- *   - `out` does not overlap the ticket or the record. To commit again, swap two buffers (see below).
+ *   - `out` does not overlap the other memory lent to the call. To commit again, swap two buffers (see below).
  *   - While a call runs, nobody else writes its input or touches its output.
- *   Calls in several threads need no lock where each has memory of its own. Both functions end after a
- *   bounded number of steps, whatever bytes they are given, and use less than 64 kilobytes of stack (measured;
- *   it depends on how the library was compiled).
+ *   Calls in several threads need no lock where each has memory of its own. Every function ends after a
+ *   bounded number of steps, whatever it is given. beyunlak_table uses less than 72 kilobytes of stack, the
+ *   other two less than 64 (measured; it depends on how the library was compiled).
  *   Bytes from a stranger are safe: they are refused or planned, and never read or written past their length.
  *
  * EXAMPLE (examples/host.c is a whole program)
@@ -91,6 +96,10 @@ extern "C" {
 #define BEYUNLAK_TICKET_MAX 1584
 #define BEYUNLAK_RECORD_MAX 1948
 
+/* How many numbers the largest table has. A table's output holds at least as many, also for fewer events:
+ * under that the answer is BEYUNLAK_SHORT. */
+#define BEYUNLAK_TABLE_MAX 1681
+
 /* The devices that own events. */
 enum beyunlak_owner {
     BEYUNLAK_CAMERA = 0,
@@ -100,9 +109,17 @@ enum beyunlak_owner {
     BEYUNLAK_DATABASE = 4
 };
 
+/* A rule: time of `to` minus time of `from` is at most `bound`. It has 8 bytes: from at offset 0, to at 1,
+ * bound at 4; the two bytes between are not looked at. */
+struct beyunlak_rule {
+    uint8_t from;
+    uint8_t to;
+    int32_t bound;
+};
+
 /* The answers. The output's length is tested first. Then the input is read field by field in the order of its
  * bytes, each field's presence before its value, and the first cause decides. Then come 9 for a ticket, and
- * 15, 11, 12, 13 in this order for a commitment. */
+ * 15, 11, 12, 13 in this order for a commitment. The table's order stands at beyunlak_table. */
 enum beyunlak_answer {
     BEYUNLAK_ACCEPTED = 0,
     BEYUNLAK_CUT = 1,        /* the bytes end inside a field */
@@ -113,8 +130,8 @@ enum beyunlak_answer {
     BEYUNLAK_POINTS = 6,     /* a point of a rule is above n, or both are the same */
     BEYUNLAK_BOUND = 7,      /* a bound is below -1,000,000 or above 1,000,000 */
     BEYUNLAK_TRAILING = 8,   /* bytes follow the end of the ticket or record */
-    BEYUNLAK_IMPOSSIBLE = 9, /* no times keep all rules (planning only) */
-    BEYUNLAK_SHORT = 10,     /* the output is shorter than BEYUNLAK_RECORD_MAX */
+    BEYUNLAK_IMPOSSIBLE = 9, /* no times keep all rules (planning and the table) */
+    BEYUNLAK_SHORT = 10,     /* the output is shorter than BEYUNLAK_RECORD_MAX, or BEYUNLAK_TABLE_MAX */
     BEYUNLAK_EVENT = 11,     /* a commitment to event 0 or to one above n */
     BEYUNLAK_COMMITTED = 12, /* the event is committed already */
     BEYUNLAK_WINDOW = 13,    /* open is above close, or they are not inside the event's window */
@@ -138,6 +155,15 @@ uint32_t beyunlak_plan(const uint8_t *ticket, size_t ticket_len, uint8_t *out, s
  */
 uint32_t beyunlak_commit(const uint8_t *record, size_t record_len, uint32_t event, uint32_t open,
                          uint32_t close, uint8_t *out, size_t out_len);
+
+/*
+ * The table of a session with this horizon, this number of events and these rules, which may stand in any
+ * order. rules_len counts rules and out_len numbers, not bytes. Owners and windows play no part in a table.
+ * Answers 0, or the first of these that applies: 10 (`out` is shorter than BEYUNLAK_TABLE_MAX), 2 (horizon), 3
+ * (events), 5 (rules), then rule by rule 6 (its points) before 7 (its bound), then 9.
+ */
+uint32_t beyunlak_table(uint32_t horizon, uint32_t events, const struct beyunlak_rule *rules, size_t rules_len,
+                        int32_t *out, size_t out_len);
 
 #ifdef __cplusplus
 }

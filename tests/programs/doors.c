@@ -1,5 +1,5 @@
-/* The header against the library: every answer under its name, the lengths, what is left in the output, and the
- * examples of commitments. Prints a line a check, "ok NAME" or "FAILED NAME". */
+/* The header against the library: every answer under its name, the lengths, what is left in the output, the
+ * examples of commitments, and the table. Prints a line a check, "ok NAME" or "FAILED NAME". */
 #include <stdio.h>
 #include <string.h>
 
@@ -222,11 +222,99 @@ static void longest(void)
     gives("plan of the longest ticket", answer);
 }
 
+/* ---- the table */
+
+static int32_t table[BEYUNLAK_TABLE_MAX + 9];
+
+static const struct beyunlak_rule trains_rules[] = {{0, 1, 15}, {1, 0, -5}, {0, 2, 20},
+                                                    {2, 0, -8}, {1, 2, 4},  {2, 1, 2}};
+
+static int32_t pattern(size_t i)
+{
+    return (int32_t)(i * 77777) - 12345678;
+}
+
+static uint32_t ask(uint32_t horizon, uint32_t events, const struct beyunlak_rule *rules, size_t count,
+                    size_t out_len)
+{
+    for (size_t i = 0; i < sizeof table / sizeof *table; i++)
+        table[i] = pattern(i);
+    return beyunlak_table(horizon, events, rules, count, table, out_len);
+}
+
+/* The table begins with these numbers, and the rest is as it was. */
+static int holds(const int32_t *wanted, size_t count)
+{
+    for (size_t i = 0; i < sizeof table / sizeof *table; i++)
+        if (table[i] != (i < count ? wanted[i] : pattern(i)))
+            return 0;
+    return 1;
+}
+
+static void no_table(const char *name, uint32_t answer, uint32_t wanted)
+{
+    check(name, answer == wanted && holds(NULL, 0));
+}
+
+static void layout(void)
+{
+    check("offset of from", offsetof(struct beyunlak_rule, from) == 0);
+    check("offset of to", offsetof(struct beyunlak_rule, to) == 1);
+    check("offset of bound", offsetof(struct beyunlak_rule, bound) == 4);
+    check("size of a rule", sizeof(struct beyunlak_rule) == 8);
+}
+
+static void table_answers(void)
+{
+    const struct beyunlak_rule points = {0, 3, BEYUNLAK_BOUND_MAX + 1}, bound = {0, 1, BEYUNLAK_BOUND_MAX + 1};
+    const struct beyunlak_rule late = {1, 0, -21}, both[] = {{0, 1, -BEYUNLAK_BOUND_MAX - 1}, {1, 1, 0}};
+    static struct beyunlak_rule many[BEYUNLAK_RULES_MAX + 1];
+    const uint32_t h = BEYUNLAK_HORIZON_MAX + 1, n = BEYUNLAK_EVENTS_MAX + 1;
+    no_table("table 10", ask(20, 2, trains_rules, 6, BEYUNLAK_TABLE_MAX - 1), BEYUNLAK_SHORT);
+    no_table("table 10 first", ask(h, n, many, BEYUNLAK_RULES_MAX + 1, 0), BEYUNLAK_SHORT);
+    no_table("table 2", ask(h, n, many, BEYUNLAK_RULES_MAX + 1, BEYUNLAK_TABLE_MAX), BEYUNLAK_HORIZON);
+    no_table("table 3", ask(20, n, many, BEYUNLAK_RULES_MAX + 1, BEYUNLAK_TABLE_MAX), BEYUNLAK_EVENTS);
+    no_table("table 5", ask(20, 2, many, BEYUNLAK_RULES_MAX + 1, BEYUNLAK_TABLE_MAX), BEYUNLAK_RULES);
+    no_table("table 6 before 7", ask(20, 2, &points, 1, BEYUNLAK_TABLE_MAX), BEYUNLAK_POINTS);
+    no_table("table 7", ask(20, 2, &bound, 1, BEYUNLAK_TABLE_MAX), BEYUNLAK_BOUND);
+    no_table("table, rule by rule", ask(20, 2, both, 2, BEYUNLAK_TABLE_MAX), BEYUNLAK_BOUND);
+    no_table("table 9", ask(20, 2, &late, 1, BEYUNLAK_TABLE_MAX), BEYUNLAK_IMPOSSIBLE);
+}
+
+static void tables(void)
+{
+    const int32_t p1[] = {0, 15, 19, -5, 0, 4, -8, 2, 0}, none[] = {0}, free_event[] = {0, 20, 0, 0};
+    static struct beyunlak_rule chain[BEYUNLAK_RULES_MAX];
+    static int32_t largest[BEYUNLAK_TABLE_MAX];
+    uint32_t answer;
+    answer = ask(20, 2, trains_rules, 6, BEYUNLAK_TABLE_MAX);
+    check("table of P1", answer == BEYUNLAK_ACCEPTED && holds(p1, 9));
+    answer = ask(20, 2, trains_rules, 6, sizeof table / sizeof *table);
+    check("table of P1, longer output", answer == BEYUNLAK_ACCEPTED && holds(p1, 9));
+    answer = ask(0, 0, trains_rules, 0, BEYUNLAK_TABLE_MAX);
+    check("table of no events", answer == BEYUNLAK_ACCEPTED && holds(none, 1));
+    answer = ask(20, 1, trains_rules, 0, BEYUNLAK_TABLE_MAX);
+    check("table of no rules", answer == BEYUNLAK_ACCEPTED && holds(free_event, 4));
+    for (uint32_t i = 0; i < BEYUNLAK_RULES_MAX; i++) {
+        chain[i].from = (uint8_t)(i % 40);
+        chain[i].to = (uint8_t)(i % 40 + 1);
+        chain[i].bound = 1;
+    }
+    answer = ask(BEYUNLAK_HORIZON_MAX, BEYUNLAK_EVENTS_MAX, chain, BEYUNLAK_RULES_MAX, BEYUNLAK_TABLE_MAX);
+    for (size_t i = 0; i <= BEYUNLAK_EVENTS_MAX; i++)
+        for (size_t j = 0; j <= BEYUNLAK_EVENTS_MAX; j++)
+            largest[41 * i + j] = (int32_t)(j >= i ? j - i : j);
+    check("largest table", answer == BEYUNLAK_ACCEPTED && holds(largest, BEYUNLAK_TABLE_MAX));
+}
+
 int main(void)
 {
     tickets();
     records();
     examples();
     longest();
+    layout();
+    table_answers();
+    tables();
     return 0;
 }

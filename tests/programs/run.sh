@@ -1,5 +1,5 @@
 #!/bin/sh
-# Runs what a user runs: the program over stored answers, the text tool, the example host and the C header.
+# Runs what a user runs: the program over stored answers, the text tool, the example programs and the C header.
 # Needs target/bin/planner (rt check planner) and target/staticlib/libbeyunlak.a (rt staticlib beyunlak); $PLANNER
 # and $LIBRARY name others. The last line is 'N passed, M failed'.
 set -u
@@ -138,13 +138,41 @@ same 'explain a plan' "$work/wanted" "$work/got"
 "$planner" <examples/tickets/p9.ticket | tools/ticket explain >"$work/got" 2>"$work/errors"
 if [ $? -eq 1 ] && grep -q '^refused 1: the bytes end inside a field' "$work/errors"; then pass; else fail 'explain a refusal'; fi
 
-# ---- the header, the library and the example host
+# tells NAME TEXT ROWS WANTED: the table with names, or the reason on standard error; / stands for a line end
+tells() {
+    printf '%s\n' "$3" | tr '/' '\n' | tools/ticket table "$2" >"$work/got" 2>&1
+    printf '%s\n' "$4" | tr '/' '\n' >"$work/wanted"
+    same "$1" "$work/wanted" "$work/got"
+}
+p1=examples/tickets/p1.txt
+tells 'table of P1' $p1 '0 15 19/-5 0 4/-8 2 0' \
+    '        start shutter flash/start       0      15    19/shutter    -5       0     4/flash      -8       2     0'
+tells 'table of no events' examples/tickets/p8.txt '0' '      start/start     0'
+tells 'a refused table' $p1 'refused 9' 'refused 9: no times keep all rules'
+tells 'a table with a row missing' $p1 '0 15 19/-5 0 4' 'this is no table of 3 points'
+tells 'a table with a word in it' $p1 '0 15 19/-5 x 4/-8 2 0' 'this is no table of 3 points'
+
+# ---- the header, the library and the example programs
 
 for compiler in gcc clang; do
     command -v $compiler >/dev/null || continue
     $compiler -std=c99 -Wall -Wextra -Werror -pedantic -Iinclude examples/host.c "$library" -o "$work/host" && "$work/host" >"$work/got"
     good $? "examples/host.c with $compiler"
     same "what examples/host.c prints, with $compiler" examples/host.expected "$work/got"
+    $compiler -std=c99 -Wall -Wextra -Werror -pedantic -Iinclude examples/table.c "$library" -o "$work/table"
+    good $? "examples/table.c with $compiler"
+    while IFS='|' read -r name wanted; do
+        "$work/table" <"examples/tickets/${name% }.ticket" >"$work/got"
+        printf '%s\n' "${wanted# }" | tr '/' '\n' >"$work/wanted"
+        same "table of ${name% }, with $compiler" "$work/wanted" "$work/got"
+    done <<'TABLES'
+p1 | 0 15 19/-5 0 4/-8 2 0
+p4 | 0 5 5 5/0 0 0 0/0 5 0 0/0 5 5 0
+p7 | 0 10/-10 0
+p7-impossible | refused 9
+p8 | 0
+p9 | refused 1
+TABLES
 done
 printf '#include "beyunlak.h"\nint main() { return BEYUNLAK_RECORD_MAX == 1948 ? 0 : 1; }\n' >"$work/host.cpp"
 g++ -Wall -Wextra -Werror -pedantic -Iinclude "$work/host.cpp" -o "$work/cpp" && "$work/cpp"
@@ -156,8 +184,8 @@ while read -r verdict name; do
     if [ "$verdict" = ok ]; then pass; else fail "doors: $name"; fi
 done <"$work/got"
 
-for program in host doors; do
-    valgrind -q --error-exitcode=9 --leak-check=full "$work/$program" >/dev/null 2>"$work/errors"
+for program in host doors table; do
+    valgrind -q --error-exitcode=9 --leak-check=full "$work/$program" <examples/tickets/p1.ticket >/dev/null 2>"$work/errors"
     good $? "$program under valgrind"
     if [ -s "$work/errors" ]; then fail "$program under valgrind: errors"; head -n 20 "$work/errors"; else pass; fi
 done

@@ -1,0 +1,59 @@
+/* The table of distances of a ticket: reads the ticket's bytes from standard input and prints the table row by row,
+ * or "refused" and the number. Bytes that break the layout are refused as beyunlak_plan refuses them.
+ *
+ *     cc -std=c99 -Iinclude examples/table.c target/staticlib/libbeyunlak.a -o table && ./table <TICKET
+ */
+#include <stdio.h>
+
+#include "beyunlak.h"
+
+static uint32_t get(const uint8_t *at, int bytes)
+{
+    uint32_t value = 0;
+    for (int i = 0; i < bytes; i++)
+        value |= (uint32_t)at[i] << (8 * i);
+    return value;
+}
+
+/* Two's complement without a cast that the compiler may choose. */
+static int32_t get_signed(const uint8_t *at)
+{
+    uint32_t value = get(at, 4);
+    return value <= INT32_MAX ? (int32_t)value : -(int32_t)(UINT32_MAX - value) - 1;
+}
+
+static int refused(uint32_t answer)
+{
+    printf("refused %u\n", (unsigned)answer);
+    return 1;
+}
+
+int main(void)
+{
+    static uint8_t ticket[BEYUNLAK_TICKET_MAX + 1];
+    static uint8_t plan[BEYUNLAK_RECORD_MAX];
+    static struct beyunlak_rule rules[BEYUNLAK_RULES_MAX];
+    static int32_t table[BEYUNLAK_TABLE_MAX];
+
+    /* A ticket that can be planned keeps the layout, so its fields stand where its counts say. */
+    size_t length = fread(ticket, 1, sizeof ticket, stdin);
+    uint32_t answer = beyunlak_plan(ticket, length, plan, sizeof plan);
+    if (answer != BEYUNLAK_ACCEPTED)
+        return refused(answer);
+
+    uint32_t n = get(ticket + 4, 2), m = get(ticket + 6 + n, 2);
+    for (uint32_t k = 0; k < m; k++) {
+        const uint8_t *rule = ticket + BEYUNLAK_TICKET_LENGTH(n, k);
+        rules[k].from = rule[0];
+        rules[k].to = rule[1];
+        rules[k].bound = get_signed(rule + 2);
+    }
+    answer = beyunlak_table(get(ticket, 4), n, rules, m, table, BEYUNLAK_TABLE_MAX);
+    if (answer != BEYUNLAK_ACCEPTED)
+        return refused(answer);
+
+    for (uint32_t i = 0; i <= n; i++)
+        for (uint32_t j = 0; j <= n; j++)
+            printf("%d%c", (int)table[i * (n + 1) + j], j < n ? ' ' : '\n');
+    return 0;
+}
