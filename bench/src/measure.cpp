@@ -5,10 +5,10 @@
 #include <cmath>
 #include <cstdio>
 #include <cstring>
-#include <ctime>
 #include <functional>
 #include <map>
 
+#include "clock.h"
 #include "peers.h"
 #include "plot.h"
 
@@ -124,24 +124,11 @@ void check(const Solver &solver, const std::vector<Call> &calls, bool commit, co
     }
 }
 
-// Processor time used so far, in seconds; other programs do not count.
-double processor_seconds() {
-    timespec time;
-    clock_gettime(CLOCK_PROCESS_CPUTIME_ID, &time);
-    return static_cast<double>(time.tv_sec) + 1e-9 * static_cast<double>(time.tv_nsec);
-}
-
 // Mean time of a call, in nanoseconds.
 double measure(const Solver &solver, const std::vector<Call> &calls, bool commit) {
-    const double start = processor_seconds();
-    size_t count = 0;
-    double seconds = 0;
-    do {
+    return mean_nanoseconds(calls.size(), least_seconds, [&] {
         for (const Call &call : calls) solver.solve(call, commit);
-        count += calls.size();
-        seconds = processor_seconds() - start;
-    } while (seconds < least_seconds);
-    return 1e9 * seconds / static_cast<double>(count);
+    });
 }
 
 // One line of the table: the least of some means, taken in turn; for the peers how often the first solver's time.
