@@ -15,7 +15,7 @@ static uint32_t get(const uint8_t *at, int bytes)
     return value;
 }
 
-/* Two's complement without a cast that the compiler may choose. */
+/* A number in two's complement. */
 static int32_t get_signed(const uint8_t *at)
 {
     uint32_t value = get(at, 4);
