@@ -24,18 +24,22 @@ held s = rulesOf (s .args .count) (s .args .rules .from) (s .args .rules .to) (s
 held-length : (s : tie.Start) → length (held s) ≡ s .args .count
 held-length s = rulesOf-length (s .args .count) (s .args .rules .from) (s .args .rules .to) (s .args .rules .bound)
 
+-- the start of the function, from where the rules have passed
+abbrev asked : tie.Else5 → tie.Start
+asked c = c .before .before .before .before .before .before
+
 -- no rule is refused, so the ticket is valid
-passed : (c : tie.Else5) → rulesCause (c .before .before .before .before .before .before .args .events) (held (c .before .before .before .before .before .before)) ≡ 0
+passed : (c : tie.Else5) → rulesCause (asked c .args .events) (held (asked c)) ≡ 0
 passed c = sym (c .before .rules-refusal .ensures) ∙ c .if5 .left
 
-valid : (c : tie.Else5) → Valid (ticketOf (c .before .before .before .before .before .before .args .horizon) (c .before .before .before .before .before .before .args .events) (held (c .before .before .before .before .before .before)))
+valid : (c : tie.Else5) → Valid (ticketOf (asked c .args .horizon) (asked c .args .events) (held (asked c)))
 valid c =
-    let s = c .before .before .before .before .before .before in
+    let s = asked c in
     ticket-valid (s .args .horizon) (s .args .events) (held s) (omega arith) (omega arith) (omega (arith, held-length s)) (passed c)
 
 -- the first entries
-same : (c : tie.After-ruled) → Everywhere (c .before .before .before .before .before .before .before .args .events) (λ i j. entry (c .ruled .result) i j
-    ≡ start (c .before .before .before .before .before .before .before .args .horizon) (held (c .before .before .before .before .before .before .before)) i j)
+same : (c : tie.After-ruled) → let s = asked (c .before) in
+    Everywhere (s .args .events) (λ i j. entry (c .ruled .result) i j ≡ start (s .args .horizon) (held s) i j)
 same c i j li lj = c .ruled .ensures i j (omega arith) (omega arith)
 
 returns : tie.Need-returns
@@ -56,7 +60,7 @@ rules-refusal-requires c κs = search needs
 
 returns-5 : tie.Need-returns-5
 returns-5 c = λ rs long eq.
-    let s = c .before .before .before .before .before .before in
+    let s : tie.Start = search needs in
     let number = c .before .rules-refusal .ensures in
     rw (← (eq (omega arith)))
     (refuses (s .args .horizon) (s .args .events) (held s) _ _
@@ -64,7 +68,7 @@ returns-5 c = λ rs long eq.
 
 ruled-requires : tie.Need-ruled-requires
 ruled-requires c κs =
-    let s = c .before .before .before .before .before .before in (
+    let s : tie.Start = search needs in (
       (omega arith, omega arith),
       valid-arrays (s .args .events) (s .args .count) (s .args .rules .from) (s .args .rules .to) (s .args .rules .bound) (omega arith) (rules-valid _ _ (passed c)),
     )
@@ -76,19 +80,21 @@ closure-requires c κs =
 
 write-requires : tie.Need-write-requires
 write-requires c κs =
-    let r = c .before .before .before .before in
-    ((omega arith, omega arith), closed-small _ _ _ (valid (r .before)) _ (same r) _ (c .before .before .before .closure .ensures) (c .before .before .if6 .taken))
+    let r : tie.After-ruled = search needs in
+    let t : tie.Then6 = search needs in
+    ((omega arith, omega arith), closed-small _ _ _ (valid (r .before)) _ (same r) _ (t .before .closure .ensures) (t .if6 .taken))
 
 same-length : tie.Need-same-length
 same-length c = search needs
 
 returns-6 : tie.Need-returns-6
 returns-6 c = λ rs long eq.
-    let s = c .before .before .before .before .before .before .before .before .before .before .before .before .before in
-    let r = c .before .before .before .before .before .before in
+    let s : tie.Start = search needs in
+    let r : tie.After-ruled = search needs in
     let v = valid (r .before) in
-    let closed = c .before .before .before .before .before .closure .ensures in
-    let yes = c .before .before .before .before .if6 .taken in
+    let t : tie.Then6 = search needs in
+    let closed = t .before .closure .ensures in
+    let yes = t .if6 .taken in
     let none = cause-last (s .args .horizon) (s .args .events) (held s) (length (s .args .out .now)) (omega arith) (omega arith) (omega arith) (omega (arith, held-length s)) true
     (passed (r .before)) (closed-consistent _ _ _ v _ (same r) _ closed yes) in
     let full = written-filled (s .args .events) (ticketOf (s .args .horizon) (s .args .events) (held s)) _ (s .args .out .now) _ (omega arith) (omega arith)
@@ -97,8 +103,8 @@ returns-6 c = λ rs long eq.
 
 returns-7 : tie.Need-returns-7
 returns-7 c = λ rs long eq.
-    let s = c .before .before .before .before .before .before .before .before .before in
-    let r = c .before .before in
+    let s : tie.Start = search needs in
+    let r : tie.After-ruled = search needs in
     let v = valid (r .before) in
     let none = cause-last (s .args .horizon) (s .args .events) (held s) (length (s .args .out .now)) (omega arith) (omega arith) (omega arith) (omega (arith, held-length s)) false
     (passed (r .before)) (closed-none _ _ _ v _ (same r) _ (c .before .closure .ensures) (c .if6 .left)) in

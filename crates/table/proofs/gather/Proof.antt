@@ -25,9 +25,11 @@ use contract.Monad.{Fun, fact}
 use contract.Running.{givenOf, tables, tablesOf}
 use sound.Loop.{loop-rule}
 use sound.WpLaws.{FmC, fmOf, WpFn-mono}
-use types.Kit.{Given, Item, Sq, runs, ‵, raw, _⊛_, some, later, ⋆, anyQ, atRet, _$_, _∵_, !, qed, by, move, keep, use0, use1, drop, split, join, pick, rewrite, fsplit, fjoin, suffices, frame, await, done}
+use types.Kit.{Given, Item, Sq, runs, ‵, raw, _⊛_, some, later, ⋆, anyQ, atRet, _$_, _∵_, !, qed, by, move, keep, use0, use1, drop, split, join, pick}
+use types.Kit.{rewrite, fsplit, fjoin, suffices, frame, await, done}
 use types.Part.{whole, sub, look-in}
-use types.Run.{look, look-raw, store, init, forget, stop, hop, fld, from, load, lit, of-opd, bin, and-then, no-more, assigns, assigns-last, stays, leaves-loop, land, returns, enter, alloc1, alloc0, params1, pass1, pass0, free1, free0, exec}
+use types.Run.{look, look-raw, store, init, forget, stop, hop, fld, from, load, lit, of-opd, bin, and-then, no-more, assigns, assigns-last, stays}
+use types.Run.{leaves-loop, land, returns, enter, alloc1, alloc0, params1, pass1, pass0, free1, free0, exec}
 use types.Share.{arr-parts}
 use denote.RattleType.{owns}
 use denote.Laws.{Is, shows}
@@ -113,7 +115,8 @@ module _ {M : Type 1} (𝓤 : URA M) (H : Heap 𝓤) (A : Atoms 𝓤) (mem : Mem
       → ent 𝓤 (ensured 𝓤 H A put-rule.ended (put-rule.clauses 𝓤 H A mem run) tt (held, (e, (x, tt))) tt r) (fact 𝓤 (Stored e x held r))
   put-rule-of held e x r = exE 𝓤 _ (λ ws. snd∗ 𝓤 (sem 𝓤 H A (lasts put-rule.ended tt (held, (e, (x, tt))) ws)) (fact 𝓤 (Stored e x held r)))
 
-module _ {M : Type 1} (𝓤 : URA M) (H : Heap 𝓤) (A : Atoms 𝓤) (W : Given 𝓤 H A) (mem : Memory → SProp 𝓤) (run : Routine → Fun 𝓤) (κ : Lft) (q : Share) (b o : ℕ) (γ : GName) (ys : List Rule) where
+module _ {M : Type 1} (𝓤 : URA M) (H : Heap 𝓤) (A : Atoms 𝓤) (W : Given 𝓤 H A) (mem : Memory → SProp 𝓤) (run : Routine → Fun 𝓤) (κ : Lft) (q : Share)
+    (b o : ℕ) (γ : GName) (ys : List Rule) where
   abbrev n : ℕ
   n = length ys
 
@@ -165,7 +168,8 @@ module _ {M : Type 1} (𝓤 : URA M) (H : Heap 𝓤) (A : Atoms 𝓤) (W : Given
       nothing ! $ move ! (1 ∷ 0 ∷ []) $ join ! $ frame ! $ owned ! S.the-row (Is S.the-row) (LL.makes S.the-type S′.the-plain 𝓤 H A) held _ is $
       nothing ! $ move ! (2 ∷ 0 ∷ []) $ fjoin ! $ frame ! $ done !
 
-  module _ (𝓣 : Tables 𝓤 H) (fm : FmC 𝓤 H (W .laws) (𝓣 .C)) (known-put-rule : Triple 𝓤 (𝓣 .C #table·put-rule) (PutRule 𝓤 H A mem run)) (g : Room R.the-row n) (count : ℕ) (within : Within n count)
+  module _ (𝓣 : Tables 𝓤 H) (fm : FmC 𝓤 H (W .laws) (𝓣 .C)) (known-put-rule : Triple 𝓤 (𝓣 .C #table·put-rule) (PutRule 𝓤 H A mem run))
+      (g : Room R.the-row n) (count : ℕ) (within : Within n count)
       (l₀ l₁ l₂ l₃ l₄ l₅ l₆ l₇ l₈ l₉ l₁₀ : ℕ) where
     abbrev C : Calls 𝓤 H
     C = 𝓣 .C
@@ -175,12 +179,15 @@ module _ {M : Type 1} (𝓤 : URA M) (H : Heap 𝓤) (A : Atoms 𝓤) (W : Given
 
     -- the locals: the result, rules, count, held, e, next, the length, the test, 8 e, the place of `rules[e]`, and the rule
     abbrev E : Env 𝓤 H
-    E = (S′.mir, l₀) ∷ (slice, l₁) ∷ (word, l₂) ∷ (S′.mir, l₃) ∷ (word, l₄) ∷ (S′.mir, l₅) ∷ (word, l₆) ∷ (tyBool, l₇) ∷ (word, l₈) ∷ (tyPtr, l₉) ∷ (R′.mir, l₁₀) ∷ []
+    E = (S′.mir, l₀) ∷ (slice, l₁) ∷ (word, l₂) ∷ (S′.mir, l₃) ∷ (word, l₄) ∷ (S′.mir, l₅) ∷ (word, l₆) ∷ (tyBool, l₇) ∷ (word, l₈) ∷ (tyPtr, l₉)
+        ∷ (R′.mir, l₁₀) ∷ []
 
     -- what no turn changes
     abbrev Frame : List (Item 𝓤)
-    Frame = ‵ (fat fullShare slice l₁ 0 (sliceVal (b, o) n)) ∷ ‵ (fat fullShare word l₂ 0 (vint w64 count)) ∷ ‵ (fat fullShare word l₆ 0 (vint w64 n)) ∷ ‵ (froom S′.mir l₀ 0) ∷ ‵ Own
-        ∷ ‵ (fdies S′.mir l₀) ∷ ‵ (fdies slice l₁) ∷ ‵ (fdies word l₂) ∷ ‵ (fdies S′.mir l₃) ∷ ‵ (fdies word l₄) ∷ ‵ (fdies S′.mir l₅) ∷ ‵ (fdies word l₆) ∷ ‵ (fdies tyBool l₇) ∷ ‵ (fdies word l₈) ∷ ‵ (fdies tyPtr l₉) ∷ ‵ (fdies R′.mir l₁₀) ∷ []
+    Frame = ‵ (fat fullShare slice l₁ 0 (sliceVal (b, o) n)) ∷ ‵ (fat fullShare word l₂ 0 (vint w64 count)) ∷ ‵ (fat fullShare word l₆ 0 (vint w64 n))
+        ∷ ‵ (froom S′.mir l₀ 0) ∷ ‵ Own
+        ∷ ‵ (fdies S′.mir l₀) ∷ ‵ (fdies slice l₁) ∷ ‵ (fdies word l₂) ∷ ‵ (fdies S′.mir l₃) ∷ ‵ (fdies word l₄) ∷ ‵ (fdies S′.mir l₅)
+        ∷ ‵ (fdies word l₆) ∷ ‵ (fdies tyBool l₇) ∷ ‵ (fdies word l₈) ∷ ‵ (fdies tyPtr l₉) ∷ ‵ (fdies R′.mir l₁₀) ∷ []
 
     -- a turn begins with e, and with the arrays at the machine value u
     abbrev At : ℕ → Val → List (Item 𝓤)
@@ -232,16 +239,21 @@ module _ {M : Type 1} (𝓤 : URA M) (H : Heap 𝓤) (A : Atoms 𝓤) (W : Given
         rewrite ! 7 (λ (p : ℕ). ‵ (fat fullShare tyPtr l₉ 0 (vptr b p))) (sym (place-is 8 o e)) refl $
         -- the slice is looked into for the rule e
         move ! (1 ∷ 0 ∷ []) $
-        looks-slice ! tt R.the-row (Is R.the-row) (shows 𝓤 H A R.the-row) (LL.vals R.the-type R′.the-laws) (LL.tells R.the-type R′.the-laws) (LL.copy R.the-type R′.the-copy 𝓤 H A W) ys b o (λ q′.
-        elem-out ! R.the-row (Is R.the-row) (shows 𝓤 H A R.the-row) (LL.vals R.the-type R′.the-laws) (LL.tells R.the-type R′.the-laws) q′ ys e (record { from = 0; to = 0; bound = pos 0 }) b o inside (λ el.
+        looks-slice ! tt R.the-row (Is R.the-row) (shows 𝓤 H A R.the-row) (LL.vals R.the-type R′.the-laws) (LL.tells R.the-type R′.the-laws)
+        (LL.copy R.the-type R′.the-copy 𝓤 H A W) ys b o (λ q′.
+        elem-out ! R.the-row (Is R.the-row) (shows 𝓤 H A R.the-row) (LL.vals R.the-type R′.the-laws) (LL.tells R.the-type R′.the-laws) q′ ys e
+        (record { from = 0; to = 0; bound = pos 0 }) b o inside (λ el.
         -- [rules[e]; what it owns; the others; what shuts; the fractured borrow; _4; _3; _5; _7; _8; _9; _10; …]
-        assigns ! (of-opd ! (load ! (from ! (hop ! (look ! 10 refl) (stop !))) (look-raw ! 0 refl))) (from ! (stop !)) (init ! 11 refl (LL.lawful R.the-type R′.the-laws 𝓤 H A W .typed (elem held u e) _ el .0)) $
+        assigns ! (of-opd ! (load ! (from ! (hop ! (look ! 10 refl) (stop !))) (look-raw ! 0 refl))) (from ! (stop !))
+        (init ! 11 refl (LL.lawful R.the-type R′.the-laws 𝓤 H A W .typed (elem held u e) _ el .0)) $
         elem-back ! R.the-row q′ ys e (record { from = 0; to = 0; bound = pos 0 }) (v held u e ∷ []) b o inside $ shuts-slice ! tt R.the-row q′ ys b o $
         use0 W (raw (PutRule 𝓤 H A mem run .pre (to-put-rule held u e))) (goes-put-rule held u e (f .1 .0) fits el (small, f .1 .1 .sized)) $
         calls-at ! fm (PutRule 𝓤 H A mem run) known-put-rule (to-put-rule held u e)
         (and-then ! (load ! (from ! (stop !)) (look ! 4 refl)) (and-then ! (load ! (from ! (stop !)) (look ! 3 refl)) (and-then ! (load ! (from ! (stop !)) (look ! 9 refl)) (no-more !)))) (λ w.
-        use1 W (later (some (λ (r : RuleArrays). (‵ ftrue ⊛ ‵ (S.the-row .own r (w ∷ []))) ⊛ raw (ensured 𝓤 H A put-rule.ended (put-rule.clauses 𝓤 H A mem run) tt (held, (e, (elem held u e, tt))) tt r)))) (id⊢ 𝓤 _) $ await ! tt $ pick ! (λ r.
-        split ! $ move ! (1 ∷ []) $ use1 W (raw (fact 𝓤 (Stored e (elem held u e) held r))) (put-rule-of 𝓤 H A mem run held e (elem held u e) r) $ heard ! (Stored e (elem held u e) held r) (λ stored. split ! $ drop ! $
+        use1 W (later (some (λ (r : RuleArrays). (‵ ftrue ⊛ ‵ (S.the-row .own r (w ∷ []))) ⊛ raw
+        (ensured 𝓤 H A put-rule.ended (put-rule.clauses 𝓤 H A mem run) tt (held, (e, (elem held u e, tt))) tt r)))) (id⊢ 𝓤 _) $ await ! tt $ pick ! (λ r.
+        split ! $ move ! (1 ∷ []) $ use1 W (raw (fact 𝓤 (Stored e (elem held u e) held r))) (put-rule-of 𝓤 H A mem run held e (elem held u e) r) $
+        heard ! (Stored e (elem held u e) held r) (λ stored. split ! $ drop ! $
         peeks ! S.the-row (Is S.the-row) (shows 𝓤 H A S.the-row) r (w ∷ []) (λ is.
         -- [what the arrays own; the token; the fractured borrow; _4; _3; _5; _7; …]
         land ! (from ! (stop !)) (init ! 5 refl (LL.lawful S.the-type S′.the-laws 𝓤 H A W .typed r _ is .0)) $ drop ! $
@@ -251,7 +263,8 @@ module _ {M : Type 1} (𝓤 : URA M) (H : Heap 𝓤) (A : Atoms 𝓤) (W : Given
         by ! (below t (e + 1) r w (omega (arith, f .0)) is (gathered-more (elem held u e) refl stored (f .1 .1)))))))))
 
     -- the turn that leaves the loop, and the rest of the body
-    ends : (e : ℕ) (held : RuleArrays) (u : Val) (X : SProp 𝓤) → e ≡ count → Is S.the-row held (u ∷ []) → Holds ys e held → ent 𝓤 (⋆ 𝓤 H A (At e u)) (Wp 𝓤 H C Λ E body.turn-1 (afterTurn 𝓤 H X Left))
+    ends : (e : ℕ) (held : RuleArrays) (u : Val) (X : SProp 𝓤) → e ≡ count → Is S.the-row held (u ∷ []) → Holds ys e held
+        → ent 𝓤 (⋆ 𝓤 H A (At e u)) (Wp 𝓤 H C Λ E body.turn-1 (afterTurn 𝓤 H X Left))
     unfolding afterTurn
     ends e held u X end is h =
         qed W (At e u) ∵ exec ! C Λ E body.turn-1 (anyQ (afterTurn 𝓤 H X Left)) $
@@ -279,9 +292,12 @@ module _ {M : Type 1} (𝓤 : URA M) (H : Heap 𝓤) (A : Atoms 𝓤) (W : Given
 
     -- before the loop: each local, the last first, beside that it dies; then the token, and what rules owns
     abbrev Locals : Item 𝓤 → List (Item 𝓤)
-    Locals third = ‵ (froom R′.mir l₁₀ 0) ∷ ‵ (fdies R′.mir l₁₀) ∷ ‵ (froom tyPtr l₉ 0) ∷ ‵ (fdies tyPtr l₉) ∷ ‵ (froom word l₈ 0) ∷ ‵ (fdies word l₈) ∷ ‵ (froom tyBool l₇ 0) ∷ ‵ (fdies tyBool l₇)
-        ∷ ‵ (fat fullShare word l₆ 0 (vint w64 n)) ∷ ‵ (fdies word l₆) ∷ ‵ (froom S′.mir l₅ 0) ∷ ‵ (fdies S′.mir l₅) ∷ ‵ (froom word l₄ 0) ∷ ‵ (fdies word l₄) ∷ third ∷ ‵ (fdies S′.mir l₃)
-        ∷ ‵ (fat fullShare word l₂ 0 (vint w64 count)) ∷ ‵ (fdies word l₂) ∷ ‵ (fat fullShare slice l₁ 0 (sliceVal (b, o) n)) ∷ ‵ (fdies slice l₁) ∷ ‵ (froom S′.mir l₀ 0) ∷ ‵ (fdies S′.mir l₀)
+    Locals third = ‵ (froom R′.mir l₁₀ 0) ∷ ‵ (fdies R′.mir l₁₀) ∷ ‵ (froom tyPtr l₉ 0) ∷ ‵ (fdies tyPtr l₉) ∷ ‵ (froom word l₈ 0) ∷ ‵ (fdies word l₈)
+        ∷ ‵ (froom tyBool l₇ 0) ∷ ‵ (fdies tyBool l₇)
+        ∷ ‵ (fat fullShare word l₆ 0 (vint w64 n)) ∷ ‵ (fdies word l₆) ∷ ‵ (froom S′.mir l₅ 0) ∷ ‵ (fdies S′.mir l₅) ∷ ‵ (froom word l₄ 0)
+        ∷ ‵ (fdies word l₄) ∷ third ∷ ‵ (fdies S′.mir l₃)
+        ∷ ‵ (fat fullShare word l₂ 0 (vint w64 count)) ∷ ‵ (fdies word l₂) ∷ ‵ (fat fullShare slice l₁ 0 (sliceVal (b, o) n)) ∷ ‵ (fdies slice l₁)
+        ∷ ‵ (froom S′.mir l₀ 0) ∷ ‵ (fdies S′.mir l₀)
         ∷ (‵ (flft κ q) ⊛ ‵ ftrue) ∷ ‵ (owns (ShrSlice (named 0) κ R.the-row ∷ []) (x, tt) at) ∷ []
 
     -- e is 0, and the loop begins. What rules owns is had twice: one copy is kept for the exit, and of the other the fractured borrow
@@ -299,24 +315,28 @@ module _ {M : Type 1} (𝓤 : URA M) (H : Heap 𝓤) (A : Atoms 𝓤) (W : Given
     makes known =
         use0 W (raw (NoRules 𝓤 H A mem run .pre to-no-rules)) goes-no-rules $
         calls-at ! fm (NoRules 𝓤 H A mem run) known to-no-rules (no-more !) (λ u.
-        use1 W (later (some (λ (r : RuleArrays). (‵ ftrue ⊛ ‵ (S.the-row .own r (u ∷ []))) ⊛ raw (ensured 𝓤 H A no-rules.ended (no-rules.clauses 𝓤 H A mem run) tt tt tt r)))) (id⊢ 𝓤 _) $ await ! tt $ pick ! (λ held.
+        use1 W (later (some (λ (r : RuleArrays). (‵ ftrue ⊛ ‵ (S.the-row .own r (u ∷ []))) ⊛ raw
+        (ensured 𝓤 H A no-rules.ended (no-rules.clauses 𝓤 H A mem run) tt tt tt r)))) (id⊢ 𝓤 _) $ await ! tt $ pick ! (λ held.
         split ! $ move ! (1 ∷ []) $ use1 W (raw (fact 𝓤 (Sized held))) (no-rules-of 𝓤 H A mem run held) $ heard ! (Sized held) (λ sized. split ! $ drop ! $
         peeks ! S.the-row (Is S.the-row) (shows 𝓤 H A S.the-row) held (u ∷ []) (λ is.
         land ! (from ! (stop !)) (init ! 15 refl (LL.lawful S.the-type S′.the-laws 𝓤 H A W .typed held _ is .0)) $ drop ! $ enters held u is sized))))
 
-  module _ (𝓣 : Tables 𝓤 H) (fm : FmC 𝓤 H (W .laws) (𝓣 .C)) (known-taken : Triple 𝓤 (𝓣 .C #table·taken) (Taken 𝓤 H A mem run)) (known-no-rules : Triple 𝓤 (𝓣 .C #table·no-rules) (NoRules 𝓤 H A mem run))
+  module _ (𝓣 : Tables 𝓤 H) (fm : FmC 𝓤 H (W .laws) (𝓣 .C)) (known-taken : Triple 𝓤 (𝓣 .C #table·taken) (Taken 𝓤 H A mem run))
+      (known-no-rules : Triple 𝓤 (𝓣 .C #table·no-rules) (NoRules 𝓤 H A mem run))
       (known-put-rule : Triple 𝓤 (𝓣 .C #table·put-rule) (PutRule 𝓤 H A mem run)) where
     -- the MIR up to the arrays
     walk : Room R.the-row n → ent 𝓤 (onEntry 𝓤 H A gather.signature (κ, tt) (q, tt) (x, tt) at) (WpFn 𝓤 H (𝓣 .C) (𝓣 .Λ) code.function (sliceVal (b, o) n ∷ []) Post)
     walk g =
         qed W ((‵ (flft κ q) ⊛ ‵ ftrue) ∷ ‵ (owns (ShrSlice (named 0) κ R.the-row ∷ []) (x, tt) at) ∷ []) ∵ enter ! (𝓣 .C) (𝓣 .Λ) code.function (sliceVal (b, o) n ∷ []) _ $
-        alloc1 ! (λ l₀. alloc1 ! (λ l₁. alloc1 ! (λ l₂. alloc1 ! (λ l₃. alloc1 ! (λ l₄. alloc1 ! (λ l₅. alloc1 ! (λ l₆. alloc1 ! (λ l₇. alloc1 ! (λ l₈. alloc1 ! (λ l₉. alloc1 ! (λ l₁₀. alloc0 ! $ params1 ! $
+        alloc1 ! (λ l₀. alloc1 ! (λ l₁. alloc1 ! (λ l₂. alloc1 ! (λ l₃. alloc1 ! (λ l₄. alloc1 ! (λ l₅. alloc1 ! (λ l₆. alloc1 ! (λ l₇.
+        alloc1 ! (λ l₈. alloc1 ! (λ l₉. alloc1 ! (λ l₁₀. alloc0 ! $ params1 ! $
         pass1 ! (init ! 18 refl (tt, (tt, (record { fits = g .0 }, tt)))) $ pass0 ! $
         -- [_10; …; _9; …; _8; …; _7; …; _6; …; _5; …; _4; …; _3; …; _2; …; _1; …; _0; …; the token; what rules owns]
         assigns ! (of-opd ! (load ! (from ! (fld ! refl (stop !))) (look-in ! 18 (sub ! 1 refl (whole !))))) (from ! (stop !)) (init ! 8 refl (tt, record { fits = g .0 })) $
         use0 W (raw (Taken 𝓤 H A mem run .pre to-taken)) (goes-taken (g .0)) $
         calls-at ! fm (Taken 𝓤 H A mem run) known-taken to-taken (and-then ! (load ! (from ! (stop !)) (look ! 9 refl)) (no-more !)) (λ w.
-        use1 W (later (some (λ (r : ℕ). (‵ ftrue ⊛ ‵ (usize .own r (w ∷ []))) ⊛ raw (ensured 𝓤 H A taken.ended (taken.clauses 𝓤 H A mem run) tt (n, tt) tt r)))) (id⊢ 𝓤 _) $ await ! tt $ pick ! (λ count.
+        use1 W (later (some (λ (r : ℕ). (‵ ftrue ⊛ ‵ (usize .own r (w ∷ []))) ⊛ raw
+        (ensured 𝓤 H A taken.ended (taken.clauses 𝓤 H A mem run) tt (n, tt) tt r)))) (id⊢ 𝓤 _) $ await ! tt $ pick ! (λ count.
         split ! $ move ! (1 ∷ []) $ use1 W (raw (fact 𝓤 (Within n count))) (taken-of 𝓤 H A mem run n count) $ heard ! (Within n count) (λ within. split ! $ drop ! $
         peeks ! usize (Is usize) (shows 𝓤 H A usize) count (w ∷ []) (λ small.
         land ! (from ! (stop !)) (init ! 17 refl (uint-lawful 𝓤 H A W w64 .typed count _ small .0)) $ drop ! $
@@ -324,9 +344,11 @@ module _ {M : Type 1} (𝓤 : URA M) (H : Heap 𝓤) (A : Atoms 𝓤) (W : Given
         makes 𝓣 fm known-put-rule g count within l₀ l₁ l₂ l₃ l₄ l₅ l₆ l₇ l₈ l₉ l₁₀ known-no-rules)))))))))))))))
 
 module _ {M : Type 1} (𝓤 : URA M) (H : Heap 𝓤) (A : Atoms 𝓤) (W : Given 𝓤 H A) (mem : Memory → SProp 𝓤) (run : Routine → Fun 𝓤) (𝓣 : Tables 𝓤 H)
-    (known-taken : Triple 𝓤 (𝓣 .C #table·taken) (Taken 𝓤 H A mem run)) (known-no-rules : Triple 𝓤 (𝓣 .C #table·no-rules) (NoRules 𝓤 H A mem run)) (known-put-rule : Triple 𝓤 (𝓣 .C #table·put-rule) (PutRule 𝓤 H A mem run)) where
+    (known-taken : Triple 𝓤 (𝓣 .C #table·taken) (Taken 𝓤 H A mem run)) (known-no-rules : Triple 𝓤 (𝓣 .C #table·no-rules) (NoRules 𝓤 H A mem run))
+    (known-put-rule : Triple 𝓤 (𝓣 .C #table·put-rule) (PutRule 𝓤 H A mem run)) where
   gather-walks : Walks 𝓤 H A gather.ended stayed (WpFn 𝓤 H (𝓣 .C) (𝓣 .Λ) code.function) (gather.clauses 𝓤 H A mem run)
-  gather-walks = walked 𝓤 H A gather.ended stayed (gather.clauses 𝓤 H A mem run) (WpFn 𝓤 H (𝓣 .C) (𝓣 .Λ) code.function) (λ κs. (slice-vals, tt)) (λ κs. (shr-slice-tells (named 0) (κs .0) R.the-row, tt))
+  gather-walks = walked 𝓤 H A gather.ended stayed (gather.clauses 𝓤 H A mem run) (WpFn 𝓤 H (𝓣 .C) (𝓣 .Λ) code.function) (λ κs. (slice-vals, tt))
+      (λ κs. (shr-slice-tells (named 0) (κs .0) R.the-row, tt))
       (λ κs qs bounds a g are. via 𝓤 _ (fst∗ 𝓤 _ (emp 𝓤))
       (walk 𝓤 H A W mem run (κs .0) (qs .0) (a .0 .ptr .0) (a .0 .ptr .1) (a .0 .name) (a .0 .now) 𝓣 (fmOf 𝓤 H (W .laws) 𝓣) known-taken known-no-rules known-put-rule (are .0 .0 .1)))
 

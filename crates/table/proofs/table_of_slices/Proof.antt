@@ -10,8 +10,9 @@ use Rattle.table.proofs.table_of_slices.Tie as tie
 
 returns : tie.Need-returns
 returns c =
-    let a = c .before .before .before .before .before .before .before .before .args in
-    let r = c .before .before .before in
+    let entry : tie.Start = search needs in
+    let a = entry .args in
+    let r : tie.After-copied = search needs in
     let count = r .before .lesser2 .ensures ∙ ap (min (length (a .from .now))) (r .before .before .lesser .ensures) in
     rw (← count)
     (c .before .flat-table .ensures (rulesOf (r .before .lesser2 .result) (a .from .now) (a .to .now) (a .bound .now))
