@@ -20,13 +20,15 @@ returns c =
 returns-2 : tie.Need-returns-2
 unfolding number
 returns-2 c =
-    let a = c .before .before .before .before .before .args in
+    let entry : tie.Start = search needs in
+    let a = entry .args in
     let m = c .before .before .u16-at in
     c .refused-rules2 .ensures ∙ ap allRuled (sym (many-rules (a .n) (drop (a .at) (a .s .now)) (m .result) _ (m .ensures) (c .before .if2 .taken)))
 
 returns-3 : tie.Need-returns-3
 returns-3 c =
-    let a = c .before .before .before .before .before .args in
+    let entry : tie.Start = search needs in
+    let a = entry .args in
     let m = c .before .before .u16-at in
     c .rules-at .ensures ∙ ap allRuled (sym (some-rules (a .n) (drop (a .at) (a .s .now)) (m .result) _ (m .ensures) (c .before .if2 .left)))
 

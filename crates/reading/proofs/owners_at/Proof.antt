@@ -1,4 +1,5 @@
--- `reading::owners_at` meets its contract. The invariant: a list xs of as many owners as were read fills the array from the front, and what is left to read, put after xs, is the whole reading. Assumes nothing.
+-- `reading::owners_at` meets its contract. The invariant: a list xs of as many owners as were read fills the array from the front, and what is left to read, put after xs, is the whole reading.
+-- Assumes nothing.
 use Prim.Native.Nat.{ℕ, _+_, _-_, _≤_}
 use mathlib.Core.Path.{_≡_, refl, sym, ap, _∙_}
 use mathlib.Core.List.{List, [], _∷_, _++_}
@@ -40,10 +41,13 @@ sub-if1 c = omega arith
 returns : tie.Need-returns Inv-loop μ-loop
 unfolding number
 returns c =
-    let a = c .before .before .before .before .before .args in
-    let l = c .before .before .before .loop in
+    let entry : tie.Start Inv-loop μ-loop = search needs in
+    let at-loop : tie.At-loop Inv-loop μ-loop = search needs in
+    let a = entry .args in
+    let l = at-loop .loop in
     let s = a .s .now in
-    c .refused-owners .ensures ∙ ap owned (sym (l .inv .5 ∙ many-stop readOwner (a .n) (l .i) (l .inv .0) _ _ (omega arith) (owner-short s (a .at + l .i) (omega arith))))
+    c .refused-owners .ensures ∙ ap owned (sym (l .inv .5 ∙ many-stop readOwner (a .n) (l .i) (l .inv .0) _ _ (omega arith)
+    (owner-short s (a .at + l .i) (omega arith))))
 
 add-b : tie.Need-add-b Inv-loop μ-loop
 add-b c = omega arith
@@ -54,10 +58,13 @@ shared-slice-read-b c = omega arith
 returns-2 : tie.Need-returns-2 Inv-loop μ-loop
 unfolding number
 returns-2 c =
-    let a = c .before .before .before .before .before .before .before .args in
-    let l = c .before .before .before .before .before .loop in
+    let entry : tie.Start Inv-loop μ-loop = search needs in
+    let at-loop : tie.At-loop Inv-loop μ-loop = search needs in
+    let a = entry .args in
+    let l = at-loop .loop in
     let s = a .s .now in
-    c .refused-owners2 .ensures ∙ ap owned (sym (l .inv .5 ∙ many-stop readOwner (a .n) (l .i) (l .inv .0) _ _ (omega arith) (owner-bad s (a .at + l .i) (omega arith) (omega arith))))
+    c .refused-owners2 .ensures ∙ ap owned (sym (l .inv .5 ∙ many-stop readOwner (a .n) (l .i) (l .inv .0) _ _ (omega arith)
+    (owner-bad s (a .at + l .i) (omega arith) (omega arith))))
 
 array-write-owners : tie.Need-array-write-owners Inv-loop μ-loop
 array-write-owners c = omega arith
@@ -70,8 +77,10 @@ loop-less c = omega arith
 
 loop-again : tie.Need-loop-again Inv-loop μ-loop
 loop-again c =
-    let a = c .before .before .before .before .before .before .args in
-    let l = c .before .before .before .before .loop in
+    let entry : tie.Start Inv-loop μ-loop = search needs in
+    let at-loop : tie.At-loop Inv-loop μ-loop = search needs in
+    let a = entry .args in
+    let l = at-loop .loop in
     let s = a .s .now in
     let xs = l .inv .0 in
     let x = getD s (a .at + l .i) 0 in

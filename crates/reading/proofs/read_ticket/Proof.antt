@@ -22,22 +22,35 @@ refused-ticket-requires c κs = search needs
 returns : tie.Need-returns
 unfolding number
 returns c =
-    let s = c .before .before .before .before .before .before .before .args .s .now in
-    let r = c .before .before .before .before .before .first-ticket in
+    let entry : tie.Start = search needs in
+    let known : tie.After-shared-slice-known = search needs in
+    let after-first-ticket : tie.After-first-ticket = search needs in
+    let parsed : tie.Then1 = search needs in
+    let s = entry .args .s .now in
+    let r = after-first-ticket .first-ticket in
     c .refused-ticket .ensures
-    ∙ sym (whole-trailing writeTicket Valid readTicket ticket-back size (λ a v. length-ticket a) (λ y. y .number) (λ y. y .next) (answer 0) (λ a u. refl) (λ k. refl) (λ a u. zero-add _) s (r .result) (r .ensures) (λ i. omega (arith, c .before .before .before .before .before .before .shared-slice-known .given i)) (c .before .before .before .if1 .taken) (omega arith))
+    ∙ sym (whole-trailing writeTicket Valid readTicket ticket-back size (λ a v. length-ticket a) (λ y. y .number) (λ y. y .next) (answer 0)
+    (λ a u. refl) (λ k. refl) (λ a u. zero-add _) s (r .result) (r .ensures) (λ i. omega (arith, known .shared-slice-known .given i))
+    (parsed .if1 .taken) (omega arith))
 
 returns-2 : tie.Need-returns-2
 returns-2 c =
-    let s = c .before .before .before .before .before .before .args .s .now in
-    let r = c .before .before .before .before .first-ticket in
-    whole-done writeTicket Valid readTicket ticket-back size (λ a v. length-ticket a) (λ y. y .number) (λ y. y .next) (answer 0) (λ a u. refl) (λ k. refl) (λ a u. zero-add _) s (r .result) (r .ensures) (λ i. omega (arith, c .before .before .before .before .before .shared-slice-known .given i)) (c .before .before .if1 .taken) (omega arith)
+    let entry : tie.Start = search needs in
+    let known : tie.After-shared-slice-known = search needs in
+    let after-first-ticket : tie.After-first-ticket = search needs in
+    let s = entry .args .s .now in
+    let r = after-first-ticket .first-ticket in
+    whole-done writeTicket Valid readTicket ticket-back size (λ a v. length-ticket a) (λ y. y .number) (λ y. y .next) (answer 0) (λ a u. refl)
+    (λ k. refl) (λ a u. zero-add _) s (r .result) (r .ensures) (λ i. omega (arith, known .shared-slice-known .given i))
+    (c .before .before .if1 .taken) (omega arith)
 
 returns-3 : tie.Need-returns-3
 returns-3 c =
-    let s = c .before .before .before .before .args .s .now in
+    let entry : tie.Start = search needs in
+    let s = entry .args .s .now in
     let r = c .before .before .first-ticket in
-    whole-refused writeTicket Valid readTicket ticket-back size (λ a v. length-ticket a) (λ y. y .number) (λ y. y .next) (answer 0) (λ a u. refl) (λ k. refl) (λ a u. zero-add _) s (r .result) (r .ensures) (c .if1 .left)
+    whole-refused writeTicket Valid readTicket ticket-back size (λ a v. length-ticket a) (λ y. y .number) (λ y. y .next) (answer 0) (λ a u. refl)
+    (λ k. refl) (λ a u. zero-add _) s (r .result) (r .ensures) (c .if1 .left)
 
 pub read-ticket-spec : {M : Type 1} → statement M
 read-ticket-spec =

@@ -25,9 +25,11 @@ returns c =
 
 returns-2 : tie.Need-returns-2
 returns-2 c =
-    let a = c .before .before .before .before .before .before .before .before .args in
+    let entry : tie.Start = search needs in
+    let after-u32-at : tie.After-u32-at = search needs in
+    let a = entry .args in
     let s = a .s .now in
-    let u = c .before .before .before .u32-at in
+    let u = after-u32-at .u32-at in
     let r : Rule = record { from = getD s (a .at) 0; to = getD s (a .at + 1) 0; bound = toZ w32 (u .result) } in
     let k = c .before .before .rule-cause in
     let no = verdict-refused (ruleTest (a .n) r []) (k .result) (k .ensures) (c .before .if2 .taken) in
@@ -35,9 +37,11 @@ returns-2 c =
 
 returns-3 : tie.Need-returns-3
 returns-3 c =
-    let a = c .before .before .before .before .before .before .before .before .args in
+    let entry : tie.Start = search needs in
+    let after-u32-at : tie.After-u32-at = search needs in
+    let a = entry .args in
     let s = a .s .now in
-    let u = c .before .before .before .u32-at in
+    let u = after-u32-at .u32-at in
     let r : Rule = record { from = getD s (a .at) 0; to = getD s (a .at + 1) 0; bound = toZ w32 (u .result) } in
     let k = c .before .before .rule-cause in
     let passed = verdict-passed (ruleTest (a .n) r) (rule-test-fixed (a .n) r) [] (k .result) (k .ensures) (c .before .if2 .left) in

@@ -56,8 +56,10 @@ refused-rules-requires c κs = search needs
 
 returns : tie.Need-returns Inv-loop μ-loop
 returns c =
-    let a = c .before .before .before .before .before .before .args in
-    let l = c .before .before .before .before .loop in
+    let entry : tie.Start Inv-loop μ-loop = search needs in
+    let at-loop : tie.At-loop Inv-loop μ-loop = search needs in
+    let a = entry .args in
+    let l = at-loop .loop in
     let r = c .before .before .rule-at in
     let no = rule-refused (readRule (a .n) (drop (a .at + 6 * l .i) (a .s .now))) (r .result) (r .ensures) (c .before .if1 .taken) in
     c .refused-rules .ensures
@@ -84,8 +86,10 @@ loop-less c = omega arith
 
 loop-again : tie.Need-loop-again Inv-loop μ-loop
 loop-again c =
-    let a = c .before .before .before .before .before .before .args in
-    let l = c .before .before .before .before .loop in
+    let entry : tie.Start Inv-loop μ-loop = search needs in
+    let at-loop : tie.At-loop Inv-loop μ-loop = search needs in
+    let a = entry .args in
+    let l = at-loop .loop in
     let r = c .before .before .rule-at in
     let s = a .s .now in
     let p = a .at + 6 * l .i in
@@ -109,12 +113,14 @@ loop-again c =
 
 returns-2 : tie.Need-returns-2 Inv-loop μ-loop
 returns-2 c =
-    let a = c .before .before .before .args in
+    let entry : tie.Start Inv-loop μ-loop = search needs in
+    let a = entry .args in
     let l = c .before .loop in
     let rs = rulesOf 0 (l .inv .0) in
     let e : a .m ≡ rs .count = omega (arith, l .inv .3) in
     rw (l .inv .4, l .inv .5, l .inv .6)
-    (ap (λ k. record { number = 0; count = k; from = rs .from; to = rs .to; bound = rs .bound }) e ∙ ap allRuled (sym (l .inv .7 ∙ many-done (readRule (a .n)) (a .m) (l .i) (l .inv .0) _ (omega arith))))
+    (ap (λ k. record { number = 0; count = k; from = rs .from; to = rs .to; bound = rs .bound }) e ∙ ap allRuled
+    (sym (l .inv .7 ∙ many-done (readRule (a .n)) (a .m) (l .i) (l .inv .0) _ (omega arith))))
 
 pub rules-at-spec : {M : Type 1} → statement M
 rules-at-spec =

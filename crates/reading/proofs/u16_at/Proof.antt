@@ -28,7 +28,8 @@ add-result c = search needs
 
 returns : tie.Need-returns
 returns c =
-    let a = c .before .before .before .before .before .args in
+    let entry : tie.Start = search needs in
+    let a = entry .args in
     little2-at (a .s .now) (a .at) _ (omega arith) (omega arith)
 
 pub u16-at-spec : {M : Type 1} → statement M

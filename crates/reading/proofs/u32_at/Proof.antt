@@ -7,7 +7,8 @@ use Rattle.reading.proofs.u32_at.Tie as tie
 
 returns : tie.Need-returns
 returns c =
-    let a = c .before .before .before .before .before .before .args in
+    let entry : tie.Start = search needs in
+    let a = entry .args in
     little4-at (a .s .now) (a .at) _ (omega arith) (c .word .ensures)
 
 pub u32-at-spec : {M : Type 1} → statement M
