@@ -17,28 +17,38 @@ use borrow.Author.Needs.{needs}
 use Rattle.reading_records.proofs.first_record.Statement.{statement}
 use Rattle.reading_records.proofs.first_record.Tie as tie
 
+-- the start of the function, from where the ticket is read
+abbrev entry : tie.After-ticket → tie.Start
+entry c = c .before .before .before .before
+
 -- What is known once the ticket is read.
 ticket-known : (c : tie.After-ticket)
-    → (t : Ticket)
-    × (readTicket (c .before .before .before .before .args .s .now) ≡ got t (drop (c .before .before .first-ticket .result .next) (c .before .before .before .before .args .s .now)))
-    × (c .before .before .first-ticket .result .ticket ≡ stored t)
-    × (c .before .before .first-ticket .result .next ≡ size t)
-    × (c .before .before .first-ticket .result .next ≤ length (c .before .before .before .before .args .s .now))
+    → let s = entry c .args .s .now in
+    let r = c .before .before .first-ticket .result in
+    (t : Ticket)
+    × (readTicket s ≡ got t (drop (r .next) s))
+    × (r .ticket ≡ stored t)
+    × (r .next ≡ size t)
+    × (r .next ≤ length s)
     × (length (t .owners) ≤ 40)
 ticket-known c =
     let r = c .before .before .first-ticket in
-    ticket-done (c .before .before .before .before .args .s .now) (r .result) (λ i. omega (arith, c .before .before .before .shared-slice-known .given i)) (r .ensures) (c .before .if1 .left)
+    let known : tie.After-shared-slice-known = search needs in
+    ticket-done (entry c .args .s .now) (r .result) (λ i. omega (arith, known .shared-slice-known .given i)) (r .ensures) (c .before .if1 .left)
 
 -- What comes after it is read for that ticket.
-plan-known : (c : tie.After-plan-at) → let t = ticket-known (c .before) .0 in
-    c .plan-at .result ≡ planAt (c .before .before .before .before .before .args .s .now) (c .before .before .before .first-ticket .result .next) (length (t .owners)) (t .horizon)
+plan-known : (c : tie.After-plan-at)
+    → let t = ticket-known (c .before) .0 in
+    c .plan-at .result ≡ planAt (entry (c .before) .args .s .now) (c .before .before .before .first-ticket .result .next) (length (t .owners)) (t .horizon)
 plan-known c =
     c .plan-at .ensures
-    ∙ ap (λ y. planAt (c .before .before .before .before .before .args .s .now) (c .before .before .before .first-ticket .result .next) (y .events) (y .horizon)) (ticket-known (c .before) .2)
+    ∙ ap (λ y. planAt (entry (c .before) .args .s .now) (c .before .before .before .first-ticket .result .next) (y .events) (y .horizon))
+    (ticket-known (c .before) .2)
 
 returns : tie.Need-returns
 returns c =
-    let s = c .before .before .before .before .args .s .now in
+    let entered : tie.Start = search needs in
+    let s = entered .args .s .now in
     let r = c .before .before .first-ticket in
     let e = was-refused (λ y. y .number) (answer 0) (λ x v. refl) (λ k. refl) (readTicket s) (r .result) (r .ensures) (c .before .if1 .taken) in
     c .refused-record .ensures ∙ ap noRecord (e .2) ∙ ap (planned 0) (sym (bad-ticket s (e .0) (e .1)))
@@ -50,19 +60,24 @@ plan-at-requires c κs =
 
 returns-2 : tie.Need-returns-2
 returns-2 c =
-    let s = c .before .before .before .before .before .before .before .args .s .now in
-    let t = ticket-known (c .before .before .before) in
-    let e = windows-refused (readPlan (length (t .0 .owners)) (t .0 .horizon) (drop (c .before .before .before .before .before .first-ticket .result .next) s)) (c .before .before .plan-at .result) (plan-known (c .before .before)) (c .before .if2 .taken) in
+    let p : tie.After-plan-at = search needs in
+    let s = entry (p .before) .args .s .now in
+    let t = ticket-known (p .before) in
+    let r = readPlan (length (t .0 .owners)) (t .0 .horizon) (drop (p .before .before .before .first-ticket .result .next) s) in
+    let e = windows-refused r (p .plan-at .result) (plan-known p) (c .before .if2 .taken) in
     c .refused-record2 .ensures ∙ ap noRecord (e .2) ∙ ap (planned 0) (sym (bad-plan s (t .0) _ (t .1) (e .0) (e .1)))
 
 returns-3 : tie.Need-returns-3
 returns-3 c =
-    let s = c .before .before .before .before .before .before .before .before .before .before .args .s .now in
-    let t = ticket-known (c .before .before .before .before .before .before) in
+    let d : tie.Else2 = search needs in
+    let p = d .before in
+    let s = entry (p .before) .args .s .now in
+    let t = ticket-known (p .before) in
     let n = length (t .0 .owners) in
-    let w = windows-done (readPlan n (t .0 .horizon) (drop (c .before .before .before .before .before .before .before .before .first-ticket .result .next) s)) (c .before .before .before .before .before .plan-at .result) (plan-known (c .before .before .before .before .before)) (c .before .before .before .before .if2 .left) in
+    let r = readPlan n (t .0 .horizon) (drop (p .before .before .before .first-ticket .result .next) s) in
+    let w = windows-done r (p .plan-at .result) (plan-known p) (d .if2 .left) in
     let es = w .0 in
-    assembled-record _ _ (c .before .before .before .before .before .plan-at .result) (t .0) es (w .1) (t .2) (w .3)
+    assembled-record _ _ (p .plan-at .result) (t .0) es (w .1) (t .2) (w .3)
     (omega (arith, t .3, ap (λ y. y .events) (t .2), plan-length n (t .0 .horizon) _ es (w .1) (w .2), length-map es (λ (y : Entry). y .window)))
     ∙ ap (planned 0) (sym (whole-state s (t .0) _ (t .1) es (w .1) (w .2)))
 
@@ -76,7 +91,7 @@ first-record-spec =
     plan-at-requires
     (λ c κs. search needs)
     returns-2
-    (λ c. omega (arith, ticket-known (c .before .before .before .before .before .before) .4))
-    (λ c. let t = ticket-known (c .before .before .before .before .before .before) in omega (arith, t .5, ap (λ y. y .events) (t .2)))
-    (λ c. let t = ticket-known (c .before .before .before .before .before .before) in omega (arith, t .4, t .5, ap (λ y. y .events) (t .2)))
+    (λ c. omega (arith, ticket-known (search needs) .4))
+    (λ c. let t = ticket-known (search needs) in omega (arith, t .5, ap (λ y. y .events) (t .2)))
+    (λ c. let t = ticket-known (search needs) in omega (arith, t .4, t .5, ap (λ y. y .events) (t .2)))
     returns-3)

@@ -20,13 +20,15 @@ returns c =
 returns-2 : tie.Need-returns-2
 unfolding number
 returns-2 c =
-    let a = c .before .before .before .before .args in
+    let entry : tie.Start = search needs in
+    let a = entry .args in
     let k = c .before .u16-at in
     ap verdict (sym (other-number (a .x) (drop (a .at) (a .s .now)) (k .result) _ (k .ensures) (c .if2 .taken)))
 
 returns-3 : tie.Need-returns-3
 returns-3 c =
-    let a = c .before .before .before .before .args in
+    let entry : tie.Start = search needs in
+    let a = entry .args in
     let k = c .before .u16-at in
     ap verdict (sym (same-number (a .x) (drop (a .at) (a .s .now)) (k .result) _ (k .ensures) (c .if2 .left)))
 

@@ -22,22 +22,34 @@ refused-record-requires c κs = search needs
 returns : tie.Need-returns
 unfolding number
 returns c =
-    let s = c .before .before .before .before .before .before .before .args .s .now in
-    let r = c .before .before .before .before .before .first-record in
+    let entry : tie.Start = search needs in
+    let known : tie.After-shared-slice-known = search needs in
+    let after-first-record : tie.After-first-record = search needs in
+    let parsed : tie.Then1 = search needs in
+    let s = entry .args .s .now in
+    let r = after-first-record .first-record in
     c .refused-record .ensures
-    ∙ sym (whole-trailing writeState Readable readState state-back stateSize length-readable (λ y. y .number) (λ y. y .next) (planned 0) (λ a u. refl) (λ k. refl) (λ a u. zero-add _) s (r .result) (r .ensures) (λ i. omega (arith, c .before .before .before .before .before .before .shared-slice-known .given i)) (c .before .before .before .if1 .taken) (omega arith))
+    ∙ sym (whole-trailing writeState Readable readState state-back stateSize length-readable (λ y. y .number) (λ y. y .next) (planned 0) (λ a u. refl)
+    (λ k. refl) (λ a u. zero-add _) s (r .result) (r .ensures) (λ i. omega (arith, known .shared-slice-known .given i)) (parsed .if1 .taken) (omega arith))
 
 returns-2 : tie.Need-returns-2
 returns-2 c =
-    let s = c .before .before .before .before .before .before .args .s .now in
-    let r = c .before .before .before .before .first-record in
-    whole-done writeState Readable readState state-back stateSize length-readable (λ y. y .number) (λ y. y .next) (planned 0) (λ a u. refl) (λ k. refl) (λ a u. zero-add _) s (r .result) (r .ensures) (λ i. omega (arith, c .before .before .before .before .before .shared-slice-known .given i)) (c .before .before .if1 .taken) (omega arith)
+    let entry : tie.Start = search needs in
+    let known : tie.After-shared-slice-known = search needs in
+    let after-first-record : tie.After-first-record = search needs in
+    let s = entry .args .s .now in
+    let r = after-first-record .first-record in
+    whole-done writeState Readable readState state-back stateSize length-readable (λ y. y .number) (λ y. y .next) (planned 0) (λ a u. refl)
+    (λ k. refl) (λ a u. zero-add _) s (r .result) (r .ensures) (λ i. omega (arith, known .shared-slice-known .given i))
+    (c .before .before .if1 .taken) (omega arith)
 
 returns-3 : tie.Need-returns-3
 returns-3 c =
-    let s = c .before .before .before .before .args .s .now in
+    let entry : tie.Start = search needs in
+    let s = entry .args .s .now in
     let r = c .before .before .first-record in
-    whole-refused writeState Readable readState state-back stateSize length-readable (λ y. y .number) (λ y. y .next) (planned 0) (λ a u. refl) (λ k. refl) (λ a u. zero-add _) s (r .result) (r .ensures) (c .if1 .left)
+    whole-refused writeState Readable readState state-back stateSize length-readable (λ y. y .number) (λ y. y .next) (planned 0) (λ a u. refl)
+    (λ k. refl) (λ a u. zero-add _) s (r .result) (r .ensures) (c .if1 .left)
 
 pub read-record-spec : {M : Type 1} → statement M
 read-record-spec =

@@ -23,11 +23,14 @@ returns c =
 
 returns-2 : tie.Need-returns-2
 returns-2 c =
-    let a = c .before .before .before .before .before .before .before .before .args in
+    let entry : tie.Start = search needs in
+    let after-u32-at : tie.After-u32-at = search needs in
+    let after-u32-at2 : tie.After-u32-at2 = search needs in
+    let a = entry .args in
     let s = a .s .now in
     let f = getD s (a .at) 0 in
-    let x = c .before .before .before .before .u32-at in
-    let y = c .before .before .before .u32-at2 in
+    let x = after-u32-at .u32-at in
+    let y = after-u32-at2 .u32-at2 in
     let k = c .before .before .window-cause in
     let right = sound (a .h) f (x .result) (y .result) in
     let no = verdict-refused (expect right layout []) (k .result) (k .ensures) (c .before .if2 .taken) in
@@ -36,10 +39,12 @@ returns-2 c =
 
 returns-3 : tie.Need-returns-3
 returns-3 c =
-    let a = c .before .before .before .before .before .before .before .args in
+    let entry : tie.Start = search needs in
+    let after-u32-at : tie.After-u32-at = search needs in
+    let a = entry .args in
     let s = a .s .now in
     let f = getD s (a .at) 0 in
-    let x = c .before .before .before .u32-at in
+    let x = after-u32-at .u32-at in
     let y = c .before .before .u32-at2 in
     let k = c .before .window-cause in
     let right = sound (a .h) f (x .result) (y .result) in

@@ -58,8 +58,10 @@ refused-windows-requires c κs = search needs
 
 returns : tie.Need-returns Inv-loop μ-loop
 returns c =
-    let a = c .before .before .before .before .before .before .args in
-    let l = c .before .before .before .before .loop in
+    let entry : tie.Start Inv-loop μ-loop = search needs in
+    let at-loop : tie.At-loop Inv-loop μ-loop = search needs in
+    let a = entry .args in
+    let l = at-loop .loop in
     let r = c .before .before .window-at in
     let no = window-refused (readWindow (a .h) (drop (a .at + 9 * l .i) (a .s .now))) (r .result) (r .ensures) (c .before .if1 .taken) in
     c .refused-windows .ensures
@@ -95,8 +97,10 @@ loop-less c = omega arith
 
 loop-again : tie.Need-loop-again Inv-loop μ-loop
 loop-again c =
-    let a = c .before .before .before .before .before .before .args in
-    let l = c .before .before .before .before .loop in
+    let entry : tie.Start Inv-loop μ-loop = search needs in
+    let at-loop : tie.At-loop Inv-loop μ-loop = search needs in
+    let a = entry .args in
+    let l = at-loop .loop in
     let r = c .before .before .window-at in
     let s = a .s .now in
     let p = a .at + 9 * l .i in
