@@ -12,21 +12,36 @@ use Rattle.plan.proofs.commit.Tie as tie
 
 returns : tie.Need-returns
 returns c =
-    let s = c .before .before .before .before .before .before .args in
-    whole-short (s .out .now) (s .scratch .now) (committing-short (s .record .now) (s .event) (s .opens) (s .closes) (s .out .now) (s .scratch .now) (short-room (s .out .now) (s .scratch .now) (c .before .before .short .ensures) (c .before .if1 .taken))) (c .refusal .ensures)
+    let entry : tie.Start = search needs in
+    let s = entry .args in
+    whole-short (s .out .now) (s .scratch .now) (committing-short (s .record .now) (s .event) (s .opens) (s .closes) (s .out .now) (s .scratch .now)
+    (short-room (s .out .now) (s .scratch .now) (c .before .before .short .ensures) (c .before .if1 .taken))) (c .refusal .ensures)
 
 commit-bytes-requires : tie.Need-commit-bytes-requires
-commit-bytes-requires c κs = let l = long-enough (c .before .before .before .before .before .before .before .args .out .now) (c .before .before .before .before .before .before .before .args .scratch .now) (c .before .before .before .short .ensures) (c .before .before .if1 .left) in (l .0, omega (arith, l .1))
+commit-bytes-requires c κs =
+    let entry : tie.Start = search needs in
+    let after-short : tie.After-short = search needs in
+    let l = long-enough (entry .args .out .now) (entry .args .scratch .now) (after-short .short .ensures) (c .before .before .if1 .left) in
+    (l .0, omega (arith, l .1))
 
 clear-requires : tie.Need-clear-requires
-clear-requires c κs = omega (arith, long-enough (c .before .before .before .before .before .before .before .before .before .before .before .before .before .args .out .now) (c .before .before .before .before .before .before .before .before .before .before .before .before .before .args .scratch .now) (c .before .before .before .before .before .before .before .before .before .short .ensures) (c .before .before .before .before .before .before .before .before .if1 .left))
+clear-requires c κs =
+    let entry : tie.Start = search needs in
+    let after-short : tie.After-short = search needs in
+    let roomy : tie.Else1 = search needs in
+    omega (arith, long-enough (entry .args .out .now) (entry .args .scratch .now) (after-short .short .ensures) (roomy .if1 .left))
 
 returns-2 : tie.Need-returns-2
 returns-2 c =
-    let s = c .before .before .before .before .before .before .before .before .before .before .before .before .before .before .before .before .args in
+    let entry : tie.Start = search needs in
+    let after-short : tie.After-short = search needs in
+    let roomy : tie.Else1 = search needs in
+    let after-commit-bytes : tie.After-commit-bytes = search needs in
+    let s = entry .args in
     whole-read (s .out .now) (s .scratch .now) (λ (x : State). commit x (asking (s .event) (s .opens) (s .closes))) (wholly readState (s .record .now))
-    (committing-read (s .record .now) (s .event) (s .opens) (s .closes) (s .out .now) (s .scratch .now) (long-room (s .out .now) (s .scratch .now) (c .before .before .before .before .before .before .before .before .before .before .before .before .short .ensures) (c .before .before .before .before .before .before .before .before .before .before .before .if1 .left)))
-    (c .before .before .before .before .before .before .before .before .commit-bytes .ensures) (c .before .before .clear .ensures)
+    (committing-read (s .record .now) (s .event) (s .opens) (s .closes) (s .out .now) (s .scratch .now)
+    (long-room (s .out .now) (s .scratch .now) (after-short .short .ensures) (roomy .if1 .left)))
+    (after-commit-bytes .commit-bytes .ensures) (c .before .before .clear .ensures)
 
 pub commit-spec : {M : Type 1} → statement M
 commit-spec =

@@ -13,12 +13,22 @@ refusal-requires : tie.Need-refusal-requires
 refusal-requires c κs = search needs
 
 returns : tie.Need-returns
-returns c = record-misread (c .before .before .before .before .before .before .before .args .record .now) (c .before .before .before .read-record .ensures) (λ (s : State). commit s (asking (c .before .before .before .before .before .before .before .args .event) (c .before .before .before .before .before .before .before .args .opens) (c .before .before .before .before .before .before .before .args .closes))) (c .before .if1 .taken) (c .refusal .ensures)
+returns c =
+    let entry : tie.Start = search needs in
+    let after-read-record : tie.After-read-record = search needs in
+    record-misread (entry .args .record .now) (after-read-record .read-record .ensures)
+    (λ (s : State). commit s (asking (entry .args .event) (entry .args .opens) (entry .args .closes))) (c .before .if1 .taken) (c .refusal .ensures)
 
 commit-record-requires : tie.Need-commit-record-requires
 commit-record-requires c κs =
-    let read = record-read (c .before .before .before .before .before .before .before .before .before .args .record .now) (c .before .before .before .before .before .read-record .ensures) (λ (s : State). commit s (asking (c .before .before .before .before .before .before .before .before .before .args .event) (c .before .before .before .before .before .before .before .before .before .args .opens) (c .before .before .before .before .before .before .before .before .before .args .closes))) (c .before .before .before .if1 .left) (λ i. omega (arith, c .before .before .before .before .before .before .before .before .shared-slice-known .given i)) in
-    (read, c .before .before .before .before .before .before .before .before .before .pre .0, c .before .before .before .before .before .before .before .before .before .pre .1)
+    let entry : tie.Start = search needs in
+    let known : tie.After-shared-slice-known = search needs in
+    let after-read-record : tie.After-read-record = search needs in
+    let parsed : tie.Else1 = search needs in
+    let read = record-read (entry .args .record .now) (after-read-record .read-record .ensures)
+    (λ (s : State). commit s (asking (entry .args .event) (entry .args .opens) (entry .args .closes))) (parsed .if1 .left)
+    (λ i. omega (arith, known .shared-slice-known .given i)) in
+    (read, entry .pre .0, entry .pre .1)
 
 same-length : tie.Need-same-length
 same-length c = search needs
@@ -27,7 +37,15 @@ same-length-2 : tie.Need-same-length-2
 same-length-2 c = search needs
 
 returns-2 : tie.Need-returns-2
-returns-2 c = record-meets (c .before .before .before .before .before .before .before .before .before .before .before .before .before .before .args .record .now) (c .before .before .before .before .before .before .before .before .before .before .read-record .ensures) (λ (s : State). commit s (asking (c .before .before .before .before .before .before .before .before .before .before .before .before .before .before .args .event) (c .before .before .before .before .before .before .before .before .before .before .before .before .before .before .args .opens) (c .before .before .before .before .before .before .before .before .before .before .before .before .before .before .args .closes))) (c .before .before .before .before .before .before .before .before .if1 .left) (λ i. omega (arith, c .before .before .before .before .before .before .before .before .before .before .before .before .before .shared-slice-known .given i)) (c .before .before .before .before .before .before .before .before .before .before .before .before .before .before .args .out .now) (c .before .before .before .before .commit-record .ensures)
+returns-2 c =
+    let entry : tie.Start = search needs in
+    let known : tie.After-shared-slice-known = search needs in
+    let after-read-record : tie.After-read-record = search needs in
+    let parsed : tie.Else1 = search needs in
+    let after-commit-record : tie.After-commit-record = search needs in
+    record-meets (entry .args .record .now) (after-read-record .read-record .ensures)
+    (λ (s : State). commit s (asking (entry .args .event) (entry .args .opens) (entry .args .closes))) (parsed .if1 .left)
+    (λ i. omega (arith, known .shared-slice-known .given i)) (entry .args .out .now) (after-commit-record .commit-record .ensures)
 
 pub commit-bytes-spec : {M : Type 1} → statement M
 commit-bytes-spec =

@@ -13,22 +13,33 @@ slice-relend-prefix-commit-window : tie.Need-slice-relend-prefix-commit-window
 slice-relend-prefix-commit-window c = search needs
 
 slice-aggregate-commit-window : tie.Need-slice-aggregate-commit-window
-slice-aggregate-commit-window c = sym (length-take-le 1824 (c .before .before .before .before .before .before .args .scratch .now) (omega (arith, c .before .before .before .before .before .before .pre .1)))
+slice-aggregate-commit-window c =
+    let entry : tie.Start = search needs in
+    sym (length-take-le 1824 (entry .args .scratch .now) (omega (arith, entry .pre .1)))
 
 commit-window-requires : tie.Need-commit-window-requires
-commit-window-requires c κs = commit-asked (c .before .before .before .before .before .before .before .before .before .args .r) (c .before .before .before .before .before .before .before .before .before .pre .0 .0) (c .before .before .before .before .before .before .before .before .before .args .event) (c .before .before .before .before .before .before .before .before .before .args .opens) (c .before .before .before .before .before .before .before .before .before .args .closes) (length-take-le 1824 (c .before .before .before .before .before .before .before .before .before .args .scratch .now) (omega (arith, c .before .before .before .before .before .before .before .before .before .pre .1))) (c .before .before .before .before .before .before .before .before .before .pre .0 .1)
+commit-window-requires c κs =
+    let entry : tie.Start = search needs in
+    commit-asked (entry .args .r) (entry .pre .0 .0) (entry .args .event) (entry .args .opens) (entry .args .closes)
+    (length-take-le 1824 (entry .args .scratch .now) (omega (arith, entry .pre .1))) (entry .pre .0 .1)
 
 add-t20 : tie.Need-add-t20
-add-t20 c = omega (arith, kept-number (c .before .before .before .before .before .before .before .before .before .before .before .before .before .args .r) (c .before .before .before .before .before .before .before .before .before .before .before .before .before .pre .0 .0))
+add-t20 c =
+    let entry : tie.Start = search needs in
+    omega (arith, kept-number (entry .args .r) (entry .pre .0 .0))
 
 same-length : tie.Need-same-length
 same-length c = search needs
 
 returns : tie.Need-returns
-returns c = (
-  kept-committed (c .before .before .before .before .before .before .before .before .before .before .before .before .before .args .r) (c .before .before .before .before .before .before .before .before .before .before .before .before .before .pre .0 .0) (c .before .before .before .before .before .before .before .before .before .before .before .before .before .args .event) (c .before .before .before .before .before .before .before .before .before .before .before .before .before .args .opens) (c .before .before .before .before .before .before .before .before .before .before .before .before .before .args .closes) (c .before .before .before .before .before .before .before .before .before .before .before .before .before .pre .0 .1) (c .before .before .before .commit-window .ensures .0),
-  past-part 8192 1824 (c .before .before .before .before .before .before .before .before .before .before .before .before .before .args .scratch .now) (c .before .before .before .commit-window .last .0) (omega arith) (c .before .before .before .commit-window .ensures .1 ∙ length-take-le 1824 (c .before .before .before .before .before .before .before .before .before .before .before .before .before .args .scratch .now) (omega (arith, c .before .before .before .before .before .before .before .before .before .before .before .before .before .pre .1))),
-)
+returns c =
+    let entry : tie.Start = search needs in
+    let after-commit-window : tie.After-commit-window = search needs in (
+      kept-committed (entry .args .r) (entry .pre .0 .0) (entry .args .event) (entry .args .opens) (entry .args .closes) (entry .pre .0 .1)
+          (after-commit-window .commit-window .ensures .0),
+      past-part 8192 1824 (entry .args .scratch .now) (after-commit-window .commit-window .last .0) (omega arith)
+          (after-commit-window .commit-window .ensures .1 ∙ length-take-le 1824 (entry .args .scratch .now) (omega (arith, entry .pre .1))),
+    )
 
 pub commit-event-spec : {M : Type 1} → statement M
 commit-event-spec =

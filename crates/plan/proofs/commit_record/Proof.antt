@@ -15,7 +15,11 @@ refusal-requires : tie.Need-refusal-requires
 refusal-requires c κs = search needs
 
 returns : tie.Need-returns
-returns c = meets-refused (c .before .before .before .before .before .args .out .now) (commit-refused (stateOf (c .before .before .before .before .before .args .r)) (asking (c .before .before .before .before .before .args .event) (c .before .before .before .before .before .args .opens) (c .before .before .before .before .before .args .closes)) (c .before .before .cause .ensures) (c .before .if1 .taken)) (c .refusal .ensures) refl
+returns c =
+    let entry : tie.Start = search needs in
+    meets-refused (entry .args .out .now) (commit-refused (stateOf (entry .args .r))
+    (asking (entry .args .event) (entry .args .opens) (entry .args .closes)) (c .before .before .cause .ensures) (c .before .if1 .taken))
+    (c .refusal .ensures) refl
 
 commit-event-requires : tie.Need-commit-event-requires
 commit-event-requires c κs = search needs
@@ -29,8 +33,15 @@ same-length c = search needs
 same-length-2 : tie.Need-same-length-2
 same-length-2 c = search needs
 
+-- the place where the commitment is made, from the end
+abbrev committed : tie.After-slice-known4 → tie.After-commit-event
+committed c = c .before .before .before .before .before .before
+
 returns-2 : tie.Need-returns-2
-returns-2 c = meets-accepted (c .before .before .before .before .before .before .before .before .before .before .before .before .args .out .now) (c .before .before .before .before .before .before .commit-event .ensures .0 .1) (c .before .before .write-out .ensures .0) (c .before .before .write-out .ensures .1) (c .before .before .before .before .before .before .commit-event .ensures .1)
+returns-2 c =
+    let entry : tie.Start = search needs in
+    meets-accepted (entry .args .out .now) (committed c .commit-event .ensures .0 .1) (c .before .before .write-out .ensures .0)
+    (c .before .before .write-out .ensures .1) (committed c .commit-event .ensures .1)
 
 pub commit-record-spec : {M : Type 1} → statement M
 commit-record-spec =

@@ -6,10 +6,14 @@ use Rattle.plan.proofs.write_out.Statement.{statement}
 use Rattle.plan.proofs.write_out.Tie as tie
 
 total-requires : tie.Need-total-requires
-total-requires c κs = lies-asked (c .before .before .before .before .before .before .pre .0)
+total-requires c κs =
+    let entry : tie.Start = search needs in
+    lies-asked (entry .pre .0)
 
 put-record-requires : tie.Need-put-record-requires
-put-record-requires c κs = (kept-storable (c .before .before .before .before .before .before .before .before .args .r) (c .before .before .before .before .before .before .before .before .pre .0), c .before .before .before .before .before .before .before .before .pre .1)
+put-record-requires c κs =
+    let entry : tie.Start = search needs in
+    (kept-storable (entry .args .r) (entry .pre .0), entry .pre .1)
 
 same-length : tie.Need-same-length
 same-length c = search needs
@@ -17,8 +21,9 @@ same-length c = search needs
 returns : tie.Need-returns
 unfolding windowList
 returns c =
+    let after-total : tie.After-total = search needs in
     let p = c .before .before .put-record .ensures in
-    let x = c .before .before .before .before .total .ensures in
+    let x = after-total .total .ensures in
     (λ i. record { number = 0; length = p .0 i; total = x i }, p .1)
 
 pub write-out-spec : {M : Type 1} → statement M
