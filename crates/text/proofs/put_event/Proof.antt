@@ -10,9 +10,12 @@ use Rattle.text.proofs.put_event.Tie as tie
 returns : tie.Need-returns
 unfolding line
 returns c =
-    let p = c .before .before .before .before .before .before .before .before .before .before .before .before .before .before .put-part .ensures in
-    let q = c .before .before .before .before .before .before .before .before .before .before .put-part2 .ensures in
-    let r = c .before .before .before .before .before .before .put-part3 .ensures in
+    let after-put-part : tie.After-put-part = search needs in
+    let after-put-part2 : tie.After-put-part2 = search needs in
+    let after-put-part3 : tie.After-put-part3 = search needs in
+    let p = after-put-part .put-part .ensures in
+    let q = after-put-part2 .put-part2 .ensures in
+    let r = after-put-part3 .put-part3 .ensures in
     let s = c .before .before .put-part4 .ensures in
     (simp append-assoc at (puts-then (p .0) (puts-then (q .0) (puts-then (r .0) (s .0)))), omega (arith, p .1, q .1, r .1, s .1))
 

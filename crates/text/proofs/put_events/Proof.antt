@@ -4,6 +4,7 @@ use mathlib.Core.Path.{_≡_}
 use native.Mathlib.Omega.{arith}
 use Rattle.text.specs.Text.{each, each-none, each-more, lineAt}
 use Rattle.text.specs.Stores.{Puts, puts-none, puts-then, puts-length}
+use borrow.Author.Needs.{needs}
 use Rattle.text.proofs.put_events.Statement.{statement}
 use Rattle.text.proofs.put_events.Tie as tie
 
@@ -17,12 +18,15 @@ loop-holds : tie.Need-loop-holds Inv-loop μ-loop
 loop-holds c = (omega arith, omega arith, rw each-none (puts-none (c .before .args .out .now) (c .before .args .at) (omega arith)))
 
 put-event-requires : tie.Need-put-event-requires Inv-loop μ-loop
-put-event-requires c κs = omega (arith, puts-length (c .before .before .before .before .before .loop .inv .2))
+put-event-requires c κs =
+    let at-loop : tie.At-loop Inv-loop μ-loop = search needs in
+    omega (arith, puts-length (at-loop .loop .inv .2))
 
 loop-again : tie.Need-loop-again Inv-loop μ-loop
 loop-again c =
+    let at-loop : tie.At-loop Inv-loop μ-loop = search needs in
     let p = c .before .before .put-event .ensures in
-    let l = c .before .before .before .before .before .before .before .before .loop in
+    let l = at-loop .loop in
     (omega (arith, p .1), omega (arith, p .1), rw each-more (puts-then (l .inv .2) (p .0)))
 
 returns : tie.Need-returns Inv-loop μ-loop

@@ -16,14 +16,18 @@ put-number-requires c κs = omega (arith, ten (c .before .before))
 
 put-byte-requires : tie.Need-put-byte-requires
 put-byte-requires c κs =
-    let p = c .before .before .before .put-number .ensures in
-    omega (arith, ten (c .before .before .before .before .before .before), p .end, puts-length p)
+    let entry : tie.Start = search needs in
+    let after-put-number : tie.After-put-number = search needs in
+    let p = after-put-number .put-number .ensures in
+    omega (arith, ten entry, p .end, puts-length p)
 
 returns : tie.Need-returns
 returns c =
-    let p = c .before .before .before .before .before .before .put-number .ensures in
+    let entry : tie.Start = search needs in
+    let after-put-number : tie.After-put-number = search needs in
+    let p = after-put-number .put-number .ensures in
     let q = c .before .before .put-byte .ensures in
-    (puts-then p q, omega (arith, ten (c .before .before .before .before .before .before .before .before .before), p .end, q .end))
+    (puts-then p q, omega (arith, ten entry, p .end, q .end))
 
 pub put-part-spec : {M : Type 1} → statement M
 put-part-spec = tie.close (tie.spec put-number-requires put-byte-requires (λ c. search needs) returns)
