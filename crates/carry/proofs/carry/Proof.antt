@@ -7,30 +7,47 @@ use Rattle.carry.proofs.carry.Statement.{statement}
 use Rattle.carry.proofs.carry.Tie as tie
 
 share-requires : tie.Need-share-requires
-share-requires c κs = c .before .before .before .before .pre .0
+share-requires c κs =
+    let entry : tie.Start = search needs in
+    entry .pre .0
 
 slice-read-net : tie.Need-slice-read-net
-slice-read-net c = c .before .before .before .before .before .before .before .before .before .before .pre .0 .inside
+slice-read-net c =
+    let entry : tie.Start = search needs in
+    entry .pre .0 .inside
 
 add-net : tie.Need-add-net
-add-net c = fits-under w32 _ 2000 (wanted-sum (c .before .before .before .before .before .before .before .before .before .before .pre .1) (c .before .before .before .before .before .share .ensures)) tt
+add-net c =
+    let entry : tie.Start = search needs in
+    let after-share : tie.After-share = search needs in
+    fits-under w32 _ 2000 (wanted-sum (entry .pre .1) (after-share .share .ensures)) tt
 
 slice-write-net : tie.Need-slice-write-net
-slice-write-net c = c .before .before .before .before .before .before .before .before .before .before .pre .0 .inside
+slice-write-net c =
+    let entry : tie.Start = search needs in
+    entry .pre .0 .inside
 
 take-requires : tie.Need-take-requires
 take-requires c κs =
-    let p = c .before .before .before .before .before .before .before .before .before .before .before .pre in
-    (p .1 .supplies, p .0 .tail, c .before .before .before .before .before .before .share .ensures .from)
+    let entry : tie.Start = search needs in
+    let after-share : tie.After-share = search needs in
+    let p = entry .pre in
+    (p .1 .supplies, p .0 .tail, after-share .share .ensures .from)
 
 take-requires-2 : tie.Need-take-requires-2
 take-requires-2 c κs =
-    let p = c .before .before .before .before .before .before .before .before .before .before .before .before .before .pre in
-    let event = c .before .before .before .before .event .ensures in
-    (p .1 .demands, omega (arith, event, p .0 .head), share-to event (c .before .before .before .before .before .before .before .before .share .ensures))
+    let entry : tie.Start = search needs in
+    let after-share : tie.After-share = search needs in
+    let after-event : tie.After-event = search needs in
+    let p = entry .pre in
+    let event = after-event .event .ensures in
+    (p .1 .demands, omega (arith, event, p .0 .head), share-to event (after-share .share .ensures))
 
 returns : tie.Need-returns
-returns c = carried-some (c .before .before .before .before .before .event .ensures) (c .before .before .before .before .before .before .before .before .before .share .ensures) (c .before .before .take .ensures) (c .take2 .ensures)
+returns c =
+    let after-share : tie.After-share = search needs in
+    let after-event : tie.After-event = search needs in
+    carried-some (after-event .event .ensures) (after-share .share .ensures) (c .before .before .take .ensures) (c .take2 .ensures)
 
 returns-2 : tie.Need-returns-2
 returns-2 c = carried-none _ _ _ _ _ _
