@@ -12,7 +12,8 @@ same-length c = simp length-set at (c .before .before .put-u32 .kept .0)
 
 returns : tie.Need-returns
 returns c =
-    let a = c .before .before .before .before .before .args in
+    let entry : tie.Start = search needs in
+    let a = entry .args in
     let one : a .at + 1 ≡ suc (a .at) = omega arith in
     let two : a .at + 2 ≡ suc (suc (a .at)) = omega arith in
     c .before .before .put-u32 .ensures ∙ rw (one, two)

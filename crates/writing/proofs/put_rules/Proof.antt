@@ -8,6 +8,7 @@ use Rattle.ticket.specs.Writer.{each, writeRule}
 use Rattle.ticket.specs.Writing.{firsts}
 use Rattle.writing.specs.Rules.{ruleOf, rule-written}
 use Rattle.writing.specs.Stores.{sets-rule}
+use borrow.Author.Needs.{needs}
 use Rattle.writing.proofs.put_rules.Statement.{statement}
 use Rattle.writing.proofs.put_rules.Tie as tie
 
@@ -24,14 +25,18 @@ loop-holds c = (omega arith, refl, refl)
 
 loop-again : tie.Need-loop-again Inv-loop μ-loop
 loop-again c =
-    let a = c .before .before .before .before .before .before .before .before .before .before .before .args in
-    let l = c .before .before .before .before .before .before .before .before .before .loop in
+    let entry : tie.Start Inv-loop μ-loop = search needs in
+    let at-loop : tie.At-loop Inv-loop μ-loop = search needs in
+    let after-c : tie.After-c Inv-loop μ-loop = search needs in
+    let after-bits : tie.After-bits Inv-loop μ-loop = search needs in
+    let a = entry .args in
+    let l = at-loop .loop in
     let p = c .before .before .put-rule in
     let rs = ruleOf (a .from .now) (a .to .now) (a .bound .now) in (
       omega arith,
       p .kept .0 ∙ l .inv .1,
       p .ensures
-          ∙ ap (sets _ (a .at + 6 * l .i)) (rule-written (rs (l .i)) (record { sfits = c .before .before .before .before .before .before .before .c .given }) (c .before .before .before .bits .ensures))
+          ∙ ap (sets _ (a .at + 6 * l .i)) (rule-written (rs (l .i)) (record { sfits = after-c .c .given }) (after-bits .bits .ensures))
           ∙ ap (λ o. sets o (a .at + 6 * l .i) (writeRule (rs (l .i)))) (l .inv .2)
           ∙ sym (sets-rule (a .out .now) (a .at) (l .i) rs),
     )

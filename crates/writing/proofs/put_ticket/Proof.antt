@@ -36,7 +36,12 @@ same-length c = search needs
 
 returns : tie.Need-returns
 returns c =
-    let a = c .before .before .before .before .before .before .before .before .before .before .before .before .before .before .before .before .before .before .before .before .before .before .before .before .before .before .before .args in
+    let after-put-u162 : tie.After-put-u162 = search needs in
+    let after-put-owners : tie.After-put-owners = search needs in
+    let after-put-u16 : tie.After-put-u16 = search needs in
+    let after-put-u32 : tie.After-put-u32 = search needs in
+    let entry : tie.Start = search needs in
+    let a = entry .args in
     let o = a .out .now in
     let t = a .t1 in
     let n = t .events in
@@ -45,12 +50,12 @@ returns c =
     let rs = firsts m (ruleIn t) in
     c .before .before .put-rules .ensures
     ∙ ap (λ l. sets l (8 + n) (each writeRule rs))
-    (c .before .before .before .before .before .before .before .before .before .before .put-u162 .ensures
+    (after-put-u162 .put-u162 .ensures
     ∙ ap (λ l. sets l (6 + n) (bytes 2 m))
-    (c .before .before .before .before .before .before .before .before .before .before .before .before .before .before .put-owners .ensures
+    (after-put-owners .put-owners .ensures
     ∙ ap (λ l. sets l 6 os)
-    (c .before .before .before .before .before .before .before .before .before .before .before .before .before .before .before .before .before .before .before .before .put-u16 .ensures
-    ∙ ap (λ l. sets l 4 (bytes 2 n)) (c .before .before .before .before .before .before .before .before .before .before .before .before .before .before .before .before .before .before .before .before .before .before .before .before .put-u32 .ensures))))
+    (after-put-u16 .put-u16 .ensures
+    ∙ ap (λ l. sets l 4 (bytes 2 n)) (after-put-u32 .put-u32 .ensures))))
     ∙ sets-ticket o (t .horizon) n m os rs (length-firsts n (ownerIn t)) (length-firsts m (ruleIn t))
 
 pub put-ticket-spec : {M : Type 1} → statement M

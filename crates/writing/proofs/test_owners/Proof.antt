@@ -6,6 +6,7 @@ use native.Mathlib.Omega.{arith}
 use Rattle.ticket.specs.Parser.{got, number}
 use Rattle.ticket.specs.Writing.{tests, testOwner, verdict}
 use Rattle.ticket.specs.WritingLaws.{owner-fails, owner-passes, tests-more, tests-stop}
+use borrow.Author.Needs.{needs}
 use Rattle.writing.proofs.test_owners.Statement.{statement}
 use Rattle.writing.proofs.test_owners.Tie as tie
 
@@ -25,8 +26,10 @@ element-copy-out-if1 c = omega arith
 returns : tie.Need-returns Inv-loop μ-loop
 unfolding number
 returns c =
-    let t = c .before .before .before .before .args .t1 in
-    let l = c .before .before .before .loop in
+    let entry : tie.Start Inv-loop μ-loop = search needs in
+    let at-loop : tie.At-loop Inv-loop μ-loop = search needs in
+    let t = entry .args .t1 in
+    let l = at-loop .loop in
     ap verdict
     (sym (tests-stop (testOwner t) [] (l .i + 1) (t .events) _ (omega arith) (tests-more (testOwner t) [] (l .i) (l .inv .1) ∙ owner-fails t (l .i) (omega arith))))
 
@@ -38,8 +41,10 @@ loop-less c = omega arith
 
 loop-again : tie.Need-loop-again Inv-loop μ-loop
 loop-again c =
-    let t = c .before .before .before .before .args .t1 in
-    let l = c .before .before .before .loop in
+    let entry : tie.Start Inv-loop μ-loop = search needs in
+    let at-loop : tie.At-loop Inv-loop μ-loop = search needs in
+    let t = entry .args .t1 in
+    let l = at-loop .loop in
     (omega arith, tests-more (testOwner t) [] (l .i) (l .inv .1) ∙ owner-passes t (l .i) (omega arith))
 
 returns-2 : tie.Need-returns-2 Inv-loop μ-loop

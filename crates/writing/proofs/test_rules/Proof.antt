@@ -22,17 +22,23 @@ loop-holds : tie.Need-loop-holds Inv-loop μ-loop
 unfolding tests
 loop-holds c = (omega arith, refl)
 
+-- the loop's head, from where a rule is tested
+abbrev head : tie.After-rule-cause Inv-loop μ-loop → tie.At-loop Inv-loop μ-loop
+head c = c .before .before .before .before .before .before
+
 -- The cause that was found is that of the test.
-tested : (c : tie.After-rule-cause Inv-loop μ-loop) → c .rule-cause .result ≡ verdict (testRule (c .before .before .before .before .before .before .before .args .t1) (c .before .before .before .before .before .before .loop .i) [])
+tested : (c : tie.After-rule-cause Inv-loop μ-loop) → c .rule-cause .result ≡ verdict (testRule (head c .before .args .t1) (head c .loop .i) [])
 tested c =
-    let t = c .before .before .before .before .before .before .before .args .t1 in
-    let r = ruleIn t (c .before .before .before .before .before .before .loop .i) in
+    let t = head c .before .args .t1 in
+    let r = ruleIn t (head c .loop .i) in
     rule-tested r (record { sfits = c .before .before .bound .given }) (c .before .bits .ensures) (t .events) (c .rule-cause .result) (c .rule-cause .ensures)
 
 returns : tie.Need-returns Inv-loop μ-loop
 returns c =
-    let t = c .before .before .before .before .before .before .before .before .args .t1 in
-    let l = c .before .before .before .before .before .before .before .loop in
+    let entry : tie.Start Inv-loop μ-loop = search needs in
+    let at-loop : tie.At-loop Inv-loop μ-loop = search needs in
+    let t = entry .args .t1 in
+    let l = at-loop .loop in
     let no = verdict-refused (testRule t (l .i) []) (c .before .rule-cause .result) (tested (c .before)) (c .if1 .taken) in
     no .2
     ∙ ap verdict
@@ -40,8 +46,10 @@ returns c =
 
 loop-again : tie.Need-loop-again Inv-loop μ-loop
 loop-again c =
-    let t = c .before .before .before .before .before .before .before .before .args .t1 in
-    let l = c .before .before .before .before .before .before .before .loop in (
+    let entry : tie.Start Inv-loop μ-loop = search needs in
+    let at-loop : tie.At-loop Inv-loop μ-loop = search needs in
+    let t = entry .args .t1 in
+    let l = at-loop .loop in (
       omega arith,
       tests-more (testRule t) [] (l .i) (l .inv .1)
           ∙ verdict-passed (testRule t (l .i)) (rule-test-fixed (t .events) (ruleIn t (l .i))) [] (c .before .rule-cause .result) (tested (c .before)) (c .if1 .left),

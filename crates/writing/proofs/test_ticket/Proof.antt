@@ -19,7 +19,8 @@ returns c =
 returns-2 : tie.Need-returns-2
 unfolding number
 returns-2 c =
-    let t = c .before .before .before .before .args .t in
+    let entry : tie.Start = search needs in
+    let t = entry .args .t in
     ap verdict (sym (many-events t (omega arith) (omega arith)))
 
 test-owners-requires : tie.Need-test-owners-requires
@@ -27,7 +28,8 @@ test-owners-requires c κs = search needs
 
 returns-3 : tie.Need-returns-3
 returns-3 c =
-    let t = c .before .before .before .before .before .before .args .t in
+    let entry : tie.Start = search needs in
+    let t = entry .args .t in
     let k = c .before .test-owners in
     let no = verdict-refused (tests (t .events) (testOwner t) []) (k .result) (k .ensures) (c .if3 .taken) in
     no .2 ∙ ap verdict (sym (owners-fail t (omega arith) (omega arith) (no .0) (no .1)))
@@ -35,8 +37,10 @@ returns-3 c =
 returns-4 : tie.Need-returns-4
 unfolding number
 returns-4 c =
-    let t = c .before .before .before .before .before .before .before .before .args .t in
-    let k = c .before .before .before .test-owners in
+    let entry : tie.Start = search needs in
+    let after-test-owners : tie.After-test-owners = search needs in
+    let t = entry .args .t in
+    let k = after-test-owners .test-owners in
     let passed = verdict-passed (tests (t .events) (testOwner t)) (tests-fixed (testOwner t) [] (owner-fixed t) (t .events)) [] (k .result) (k .ensures) (c .before .before .if3 .left) in
     ap verdict (sym (many-rules t (omega arith) (omega arith) passed (omega arith)))
 
@@ -45,9 +49,13 @@ test-rules-requires c κs = search needs
 
 returns-5 : tie.Need-returns-5
 returns-5 c =
-    let t = c .before .before .before .before .before .before .before .before .before .args .t in
-    let k = c .before .before .before .before .test-owners in
-    let passed = verdict-passed (tests (t .events) (testOwner t)) (tests-fixed (testOwner t) [] (owner-fixed t) (t .events)) [] (k .result) (k .ensures) (c .before .before .before .if3 .left) in
+    let entry : tie.Start = search needs in
+    let after-test-owners : tie.After-test-owners = search needs in
+    let owners-fit : tie.Else3 = search needs in
+    let t = entry .args .t in
+    let k = after-test-owners .test-owners in
+    let passed = verdict-passed (tests (t .events) (testOwner t)) (tests-fixed (testOwner t) [] (owner-fixed t) (t .events)) [] (k .result)
+    (k .ensures) (owners-fit .if3 .left) in
     c .test-rules .ensures ∙ ap verdict (sym (last-tests t (omega arith) (omega arith) passed (omega arith)))
 
 pub test-ticket-spec : {M : Type 1} → statement M

@@ -18,14 +18,18 @@ use borrow.Author.Needs.{needs}
 use Rattle.writing.proofs.write_ticket.Statement.{statement}
 use Rattle.writing.proofs.write_ticket.Tie as tie
 
+-- the start of the function, from where the tests are passed
+abbrev start : tie.Else2 → tie.Start
+start c = c .before .before .before .before
+
 -- The tests are passed.
-passed : (c : tie.Else2) → testTicket (c .before .before .before .before .args .t) [] ≡ got tt []
+passed : (c : tie.Else2) → testTicket (start c .args .t) [] ≡ got tt []
 passed c =
     let k = c .before .test-ticket in
-    verdict-passed (testTicket (c .before .before .before .before .args .t)) (ticket-fixed (c .before .before .before .before .args .t)) [] (k .result) (k .ensures) (c .if2 .left)
+    verdict-passed (testTicket (start c .args .t)) (ticket-fixed (start c .args .t)) [] (k .result) (k .ensures) (c .if2 .left)
 
-valid : (c : tie.Else2) → Valid (content (c .before .before .before .before .args .t)) × (c .before .before .before .before .args .t .events ≤ 40) × (c .before .before .before .before .args .t .rules ≤ 256)
-valid c = tested-valid (c .before .before .before .before .args .t) [] tt [] (passed c)
+valid : (c : tie.Else2) → Valid (content (start c .args .t)) × (start c .args .t .events ≤ 40) × (start c .args .t .rules ≤ 256)
+valid c = tested-valid (start c .args .t) [] tt [] (passed c)
 
 returns : tie.Need-returns
 unfolding number
@@ -36,8 +40,9 @@ test-ticket-requires c κs = search needs
 
 returns-2 : tie.Need-returns-2
 returns-2 c =
-    let o = c .before .before .before .before .args .out .now in
-    let t = c .before .before .before .before .args .t in
+    let entry : tie.Start = search needs in
+    let o = entry .args .out .now in
+    let t = entry .args .t in
     let k = c .before .test-ticket in
     let no = verdict-refused (testTicket t []) (k .result) (k .ensures) (c .if2 .taken) in
     refusal o (writing o t []) (k .result) (no .0) (no .2) (test-fails o t (omega arith) (no .0) (no .1))
@@ -46,27 +51,29 @@ put-ticket-requires : tie.Need-put-ticket-requires
 put-ticket-requires c κs = let g = valid (c .before) in (g .1, g .2, omega arith)
 
 add-t6 : tie.Need-add-t6
-add-t6 c = let g = valid (c .before .before .before .before) in omega (arith, g .1, g .2)
+add-t6 c = let g = valid (search needs) in omega (arith, g .1, g .2)
 
 mul-t11 : tie.Need-mul-t11
-mul-t11 c = let g = valid (c .before .before .before .before) in omega (arith, g .1, g .2)
+mul-t11 c = let g = valid (search needs) in omega (arith, g .1, g .2)
 
 add-t12 : tie.Need-add-t12
-add-t12 c = let g = valid (c .before .before .before .before) in omega (arith, g .1, g .2)
+add-t12 c = let g = valid (search needs) in omega (arith, g .1, g .2)
 
 same-length : tie.Need-same-length
 same-length c = search needs
 
 returns-3 : tie.Need-returns-3
 returns-3 c =
-    let o = c .before .before .before .before .before .before .before .before .args .out .now in
-    let t = c .before .before .before .before .before .before .before .before .args .t in
-    let e = test-passes o t (omega arith) (passed (c .before .before .before .before)) in
+    let entry : tie.Start = search needs in
+    let tested : tie.Else2 = search needs in
+    let o = entry .args .out .now in
+    let t = entry .args .t in
+    let e = test-passes o t (omega arith) (passed tested) in
     let long : length (writeTicket (content t)) ≡ 8 + t .events + 6 * t .rules =
     omega (arith, length-ticket (content t), length-firsts (t .events) (ownerIn t), length-firsts (t .rules) (ruleIn t)) in (
       rw (← long) (ap told (sym e)),
       c .before .before .put-ticket .ensures
-          ∙ sets-over (writeTicket (content t)) o (omega (arith, ticket-bytes (content t) (valid (c .before .before .before .before) .0)))
+          ∙ sets-over (writeTicket (content t)) o (omega (arith, ticket-bytes (content t) (valid tested .0)))
           ∙ ap (left o) (sym e),
     )
 
