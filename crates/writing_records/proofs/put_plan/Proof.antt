@@ -11,12 +11,15 @@ use Rattle.writing_records.proofs.put_plan.Tie as tie
 
 returns : tie.Need-returns
 returns c =
-    let a = c .before .before .before .before .before .before .before .before .before .before .before .before .before .before .before .before .before .args in
+    let entry : tie.Start = search needs in
+    let after-put-u16 : tie.After-put-u16 = search needs in
+    let after-put-windows : tie.After-put-windows = search needs in
+    let a = entry .args in
     let r = a .t1 in
     let n = r .ticket .events in
     c .before .before .put-u162 .ensures
     ∙ ap (λ l. sets l (a .at + 2 + 9 * n) (bytes 2 (r .number)))
-    (c .before .before .before .before .before .before .put-windows .ensures ∙ ap (λ l. sets l (a .at + 2) (each writeWindow (firsts n (entryIn r)))) (c .before .before .before .before .before .before .before .before .before .before .before .before .before .before .put-u16 .ensures))
+    (after-put-windows .put-windows .ensures ∙ ap (λ l. sets l (a .at + 2) (each writeWindow (firsts n (entryIn r)))) (after-put-u16 .put-u16 .ensures))
     ∙ sets-plan (a .out .now) r (a .at)
 
 pub put-plan-spec : {M : Type 1} → statement M

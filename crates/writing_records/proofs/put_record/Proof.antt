@@ -9,15 +9,18 @@ use Rattle.writing_records.proofs.put_record.Statement.{statement}
 use Rattle.writing_records.proofs.put_record.Tie as tie
 
 same-length : tie.Need-same-length
-same-length c = c .before .before .put-plan .kept .1 .0 ∙ c .before .before .before .before .before .before .put-ticket .kept .1 .0
+same-length c =
+    let after-put-ticket : tie.After-put-ticket = search needs in
+    c .before .before .put-plan .kept .1 .0 ∙ after-put-ticket .put-ticket .kept .1 .0
 
 returns : tie.Need-returns
 returns c =
-    let s = c .before .before .before .before .before .before .before .before .before .before in
+    let after-put-ticket : tie.After-put-ticket = search needs in
+    let s : tie.Start = search needs in
     let t = s .args .r .ticket in (
       sym (length-record (s .args .r)),
       c .before .before .put-plan .ensures
-          ∙ ap (λ l. sets l (8 + t .events + 6 * t .rules) (planBytes (s .args .r))) (c .before .before .before .before .before .before .put-ticket .ensures)
+          ∙ ap (λ l. sets l (8 + t .events + 6 * t .rules) (planBytes (s .args .r))) (after-put-ticket .put-ticket .ensures)
           ∙ sets-record (s .args .r) (s .args .out .now) (s .pre .0 .events-limit) (s .pre .0 .rules-limit) (s .pre .1),
     )
 

@@ -12,15 +12,19 @@ use Rattle.writing_records.proofs.put_window.Statement.{statement}
 use Rattle.writing_records.proofs.put_window.Tie as tie
 
 same-length : tie.Need-same-length
-same-length c = c .before .before .put-u322 .kept .0 ∙ (simp length-set at (c .before .before .before .before .before .before .put-u32 .kept .0))
+same-length c =
+    let after-put-u32 : tie.After-put-u32 = search needs in
+    c .before .before .put-u322 .kept .0 ∙ (simp length-set at (after-put-u32 .put-u32 .kept .0))
 
 returns : tie.Need-returns
 returns c =
-    let a = c .before .before .before .before .before .before .before .before .before .args in
+    let entry : tie.Start = search needs in
+    let after-put-u32 : tie.After-put-u32 = search needs in
+    let a = entry .args in
     let l = set (a .out .now) (a .at) (a .flag) in
     let one : a .at + 1 ≡ suc (a .at) = omega arith in
     c .before .before .put-u322 .ensures
-    ∙ ap (λ o. sets o (a .at + 5) (bytes 4 (a .closes))) (c .before .before .before .before .before .before .put-u32 .ensures ∙ ap (λ k. sets l k (bytes 4 (a .opens))) one)
+    ∙ ap (λ o. sets o (a .at + 5) (bytes 4 (a .closes))) (after-put-u32 .put-u32 .ensures ∙ ap (λ k. sets l k (bytes 4 (a .opens))) one)
     ∙ sets-then (bytes 4 (a .opens)) (bytes 4 (a .closes)) l (suc (a .at)) (a .at + 5) (omega (arith, length-bytes 4 (a .opens)))
 
 pub put-window-spec : {M : Type 1} → statement M

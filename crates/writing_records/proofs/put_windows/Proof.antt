@@ -8,6 +8,7 @@ use Rattle.ticket.specs.Writer.{each, writeWindow}
 use Rattle.ticket.specs.Writing.{firsts}
 use Rattle.writing_records.specs.Parts.{entryOf, window-written}
 use Rattle.writing_records.specs.Stores.{sets-window}
+use borrow.Author.Needs.{needs}
 use Rattle.writing_records.proofs.put_windows.Statement.{statement}
 use Rattle.writing_records.proofs.put_windows.Tie as tie
 
@@ -24,14 +25,16 @@ loop-holds c = (omega arith, refl, refl)
 
 loop-again : tie.Need-loop-again Inv-loop μ-loop
 loop-again c =
-    let a = c .before .before .before .before .before .before .before .before .before .before .args in
-    let l = c .before .before .before .before .before .before .before .before .loop in
+    let entry : tie.Start Inv-loop μ-loop = search needs in
+    let at-loop : tie.At-loop Inv-loop μ-loop = search needs in
+    let a = entry .args in
+    let l = at-loop .loop in
     let p = c .before .before .put-window in
     let es = entryOf (a .flags .now) (a .opens .now) (a .closes .now) in (
       omega arith,
       p .kept .0 ∙ l .inv .1,
       p .ensures
-          ∙ ap (sets _ (a .at + 9 * l .i)) (window-written (a .flags .now) (a .opens .now) (a .closes .now) (l .i) (c .before .before .before .before .before .before .before .before .before .before .pre .1 (l .i) (omega arith)))
+          ∙ ap (sets _ (a .at + 9 * l .i)) (window-written (a .flags .now) (a .opens .now) (a .closes .now) (l .i) (entry .pre .1 (l .i) (omega arith)))
           ∙ ap (λ o. sets o (a .at + 9 * l .i) (writeWindow (es (l .i)))) (l .inv .2)
           ∙ sym (sets-window (a .out .now) (a .at) (l .i) es),
     )

@@ -11,21 +11,29 @@ use borrow.Author.Needs.{needs}
 use Rattle.writing_records.proofs.test_record.Statement.{statement}
 use Rattle.writing_records.proofs.test_record.Tie as tie
 
+-- places of the code, each from one after it
+abbrev entry : tie.Else1 → tie.Start
+entry c = c .before .before .before
+
+abbrev ticket-fits : tie.Else2 → tie.Else1
+ticket-fits c = c .before .before
+
 -- The ticket's tests are passed, so its events are few enough.
-passed : (c : tie.Else1) → testTicket (c .before .before .before .args .r .ticket) [] ≡ got tt []
+passed : (c : tie.Else1) → testTicket (entry c .args .r .ticket) [] ≡ got tt []
 passed c =
     let k = c .before .test-ticket in
-    let t = c .before .before .before .args .r .ticket in
+    let t = entry c .args .r .ticket in
     verdict-passed (testTicket t) (ticket-fixed t) [] (k .result) (k .ensures) (c .if1 .left)
 
-few : (c : tie.Else1) → c .before .before .before .args .r .ticket .events ≤ 40
-few c = tested-valid (c .before .before .before .args .r .ticket) [] tt [] (passed c) .1
+few : (c : tie.Else1) → entry c .args .r .ticket .events ≤ 40
+few c = tested-valid (entry c .args .r .ticket) [] tt [] (passed c) .1
 
 -- The windows' tests are passed.
-windows-passed : (c : tie.Else2) → tests (c .before .before .before .before .before .args .r .ticket .events) (testWindow (c .before .before .before .before .before .args .r)) [] ≡ got tt []
+windows-passed : (c : tie.Else2) → let r = entry (ticket-fits c) .args .r in
+    tests (r .ticket .events) (testWindow r) [] ≡ got tt []
 windows-passed c =
     let k = c .before .test-windows in
-    let r = c .before .before .before .before .before .args .r in
+    let r = entry (ticket-fits c) .args .r in
     verdict-passed (tests (r .ticket .events) (testWindow r)) (tests-fixed (testWindow r) [] (window-test-fixed r) (r .ticket .events)) [] (k .result) (k .ensures)
     (c .if2 .left)
 
@@ -34,7 +42,8 @@ test-ticket-requires c κs = search needs
 
 returns : tie.Need-returns
 returns c =
-    let r = c .before .before .before .args .r in
+    let start : tie.Start = search needs in
+    let r = start .args .r in
     let k = c .before .test-ticket in
     let no = verdict-refused (testTicket (r .ticket) []) (k .result) (k .ensures) (c .if1 .taken) in
     no .2 ∙ ap verdict (sym (ticket-fails r (no .0) (no .1)))
@@ -44,28 +53,29 @@ test-windows-requires c κs = few c
 
 returns-2 : tie.Need-returns-2
 returns-2 c =
-    let r = c .before .before .before .before .before .args .r in
+    let t : tie.Else1 = search needs in
+    let r = entry t .args .r in
     let k = c .before .test-windows in
     let no = verdict-refused (tests (r .ticket .events) (testWindow r) []) (k .result) (k .ensures) (c .if2 .taken) in
-    no .2 ∙ ap verdict (sym (windows-fail r (passed (c .before .before)) (no .0) (no .1)))
+    no .2 ∙ ap verdict (sym (windows-fail r (passed t) (no .0) (no .1)))
 
 set-flags-requires : tie.Need-set-flags-requires
-set-flags-requires c κs = few (c .before .before)
+set-flags-requires c κs = few (search needs)
 
 returns-3 : tie.Need-returns-3
 unfolding number
 returns-3 c =
-    let e = c .before .before .before in
-    let r = e .before .before .before .before .before .args .r in
+    let w : tie.Else2 = search needs in
+    let r = entry (ticket-fits w) .args .r in
     let k = c .before .before .set-flags in
-    ap verdict (sym (number-fails r (passed (e .before .before)) (windows-passed e) (λ q. c .if3 .taken (sym (q ∙ sym (k .ensures))))))
+    ap verdict (sym (number-fails r (passed (ticket-fits w)) (windows-passed w) (λ q. c .if3 .taken (sym (q ∙ sym (k .ensures))))))
 
 returns-4 : tie.Need-returns-4
 returns-4 c =
-    let e = c .before .before .before in
-    let r = e .before .before .before .before .before .args .r in
+    let w : tie.Else2 = search needs in
+    let r = entry (ticket-fits w) .args .r in
     let k = c .before .before .set-flags in
-    ap verdict (sym (record-passes r (passed (e .before .before)) (windows-passed e) (sym (c .if3 .left) ∙ k .ensures)))
+    ap verdict (sym (record-passes r (passed (ticket-fits w)) (windows-passed w) (sym (c .if3 .left) ∙ k .ensures)))
 
 pub test-record-spec : {M : Type 1} → statement M
 test-record-spec =

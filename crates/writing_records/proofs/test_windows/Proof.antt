@@ -21,14 +21,20 @@ loop-holds : tie.Need-loop-holds Inv-loop μ-loop
 unfolding tests
 loop-holds c = (omega arith, refl)
 
+-- the loop's head, from where a window is tested
+abbrev head : tie.After-window-cause Inv-loop μ-loop → tie.At-loop Inv-loop μ-loop
+head c = c .before .before .before .before .before
+
 -- The cause that was found is that of the test.
-tested : (c : tie.After-window-cause Inv-loop μ-loop) → c .window-cause .result ≡ verdict (testWindow (c .before .before .before .before .before .before .args .t1) (c .before .before .before .before .before .loop .i) [])
-tested c = window-tested (c .before .before .before .before .before .before .args .t1) (c .before .before .before .before .before .loop .i) (c .window-cause .result) (c .window-cause .ensures)
+tested : (c : tie.After-window-cause Inv-loop μ-loop) → c .window-cause .result ≡ verdict (testWindow (head c .before .args .t1) (head c .loop .i) [])
+tested c = window-tested (head c .before .args .t1) (head c .loop .i) (c .window-cause .result) (c .window-cause .ensures)
 
 returns : tie.Need-returns Inv-loop μ-loop
 returns c =
-    let r = c .before .before .before .before .before .before .before .args .t1 in
-    let l = c .before .before .before .before .before .before .loop in
+    let entry : tie.Start Inv-loop μ-loop = search needs in
+    let at-loop : tie.At-loop Inv-loop μ-loop = search needs in
+    let r = entry .args .t1 in
+    let l = at-loop .loop in
     let no = verdict-refused (testWindow r (l .i) []) (c .before .window-cause .result) (tested (c .before)) (c .if1 .taken) in
     no .2
     ∙ ap verdict
@@ -36,8 +42,10 @@ returns c =
 
 loop-again : tie.Need-loop-again Inv-loop μ-loop
 loop-again c =
-    let r = c .before .before .before .before .before .before .before .args .t1 in
-    let l = c .before .before .before .before .before .before .loop in (
+    let entry : tie.Start Inv-loop μ-loop = search needs in
+    let at-loop : tie.At-loop Inv-loop μ-loop = search needs in
+    let r = entry .args .t1 in
+    let l = at-loop .loop in (
       omega arith,
       tests-more (testWindow r) [] (l .i) (l .inv .1)
           ∙ verdict-passed (testWindow r (l .i)) (window-test-fixed r (l .i)) [] (c .before .window-cause .result) (tested (c .before)) (c .if1 .left),

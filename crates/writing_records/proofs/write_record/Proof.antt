@@ -11,11 +11,15 @@ use borrow.Author.Needs.{needs}
 use Rattle.writing_records.proofs.write_record.Statement.{statement}
 use Rattle.writing_records.proofs.write_record.Tie as tie
 
+-- the start of the function, from where the tests are passed
+abbrev start : tie.Else2 → tie.Start
+start c = c .before .before .before .before
+
 -- The tests are passed.
-passed : (c : tie.Else2) → testRecord (c .before .before .before .before .args .r) [] ≡ got tt []
+passed : (c : tie.Else2) → testRecord (start c .args .r) [] ≡ got tt []
 passed c =
     let k = c .before .test-record in
-    verdict-passed (testRecord (c .before .before .before .before .args .r)) (record-fixed (c .before .before .before .before .args .r)) [] (k .result) (k .ensures) (c .if2 .left)
+    verdict-passed (testRecord (start c .args .r)) (record-fixed (start c .args .r)) [] (k .result) (k .ensures) (c .if2 .left)
 
 returns : tie.Need-returns
 unfolding number
@@ -26,23 +30,25 @@ test-record-requires c κs = search needs
 
 returns-2 : tie.Need-returns-2
 returns-2 c =
-    let o = c .before .before .before .before .args .out .now in
-    let r = c .before .before .before .before .args .r in
+    let entry : tie.Start = search needs in
+    let o = entry .args .out .now in
+    let r = entry .args .r in
     let k = c .before .test-record in
     let no = verdict-refused (testRecord r []) (k .result) (k .ensures) (c .if2 .taken) in
     refusal o (writingRecord o r []) (k .result) (no .0) (no .2) (record-fails o r (omega arith) (no .0) (no .1))
 
 put-record-requires : tie.Need-put-record-requires
-put-record-requires c κs = (tested-readable (c .before .before .before .before .before .args .r) [] tt [] (passed (c .before)) .1, omega arith)
+put-record-requires c κs = (tested-readable (start (c .before) .args .r) [] tt [] (passed (c .before)) .1, omega arith)
 
 same-length : tie.Need-same-length
 same-length c = search needs
 
 returns-3 : tie.Need-returns-3
 returns-3 c =
-    let a = c .before .before .before .before .before .before .before .before .args in
+    let entry : tie.Start = search needs in
+    let a = entry .args in
     let p = c .before .before .put-record .ensures in
-    let e = record-written (a .out .now) (a .r) (omega arith) (passed (c .before .before .before .before)) in
+    let e = record-written (a .out .now) (a .r) (omega arith) (passed (search needs)) in
     (ap (λ k. record { number = 0; length = k }) (p .0) ∙ ap told (sym e), p .1 ∙ ap (left (a .out .now)) (sym e))
 
 pub write-record-spec : {M : Type 1} → statement M
