@@ -17,47 +17,69 @@ use Rattle.planner.specs.Printed.{Said, has-room, printed-refused, print
 use Rattle.planner.proofs.print.print.Statement.{statement}
 use Rattle.planner.proofs.print.print.Tie as tie
 
+-- places of the code, each from one after it
+abbrev entry : tie.After-scratch → tie.Start
+entry c = c .before .before .before .before
+
+abbrev lent : tie.After-plan → tie.After-scratch
+lent c = c .before .before .before
+
+abbrev planned : tie.Else1 → tie.After-plan
+planned c = c .before .before .before
+
 -- planning has room
 space : (c : tie.After-scratch) → room (c .before .blank .result) (c .scratch .result) ≡ true
 space c = has-room (c .before .blank .result) (c .scratch .result) (c .before .blank .ensures) (c .scratch .ensures)
 
 returns : tie.Need-returns
 returns c =
-    let n = ap (λ (r : Answer). r .number) (c .before .before .before .before .before .before .before .plan .ensures .0) in
+    let refused : tie.Then1 = search needs in
+    let done : tie.After-plan = search needs in
+    let l = lent done in
+    let n = ap (λ (r : Answer). r .number) (done .plan .ensures .0) in
     let p = c .before .before .put-refusal .ensures in
-    let q = puts-as (ap refusal n ∙ printed-refused (c .before .before .before .before .before .before .before .before .before .before .before .before .before .before .args .ticket .now) (c .before .before .before .before .before .before .before .before .before .before .before .blank .result) (c .before .before .before .before .before .before .before .before .before .before .scratch .result) (space (c .before .before .before .before .before .before .before .before .before .before)) (λ z. c .before .before .before .before .if1 .taken (n ∙ z))) p in
+    let q = puts-as
+    (ap refusal n ∙ printed-refused (entry l .args .ticket .now) (l .before .blank .result) (l .scratch .result) (space l) (λ z. refused .if1 .taken (n ∙ z)))
+    p in
     (q, puts-counts q)
 
-said : (c : tie.Else1) → (s : State) × Said (c .before .before .before .before .before .before .before .before .before .before .args .ticket .now) (planning (c .before .before .before .before .before .before .before .before .before .before .args .ticket .now) (c .before .before .before .before .before .before .before .blank .result) (c .before .before .before .before .before .before .scratch .result)) s
+said : (c : tie.Else1) → let l = lent (planned c) in
+    (s : State) × Said (entry l .args .ticket .now) (planning (entry l .args .ticket .now) (l .before .blank .result) (l .scratch .result)) s
 said c =
-    let n = ap (λ (r : Answer). r .number) (c .before .before .before .plan .ensures .0) in
-    printed-planned (c .before .before .before .before .before .before .before .before .before .before .args .ticket .now) (c .before .before .before .before .before .before .before .blank .result) (c .before .before .before .before .before .before .scratch .result) (space (c .before .before .before .before .before .before))
-    (λ i. omega (arith, c .before .before .before .before .before .before .before .before .before .shared-slice-known .given i)) (sym n ∙ c .if1 .left)
+    let known : tie.After-shared-slice-known = search needs in
+    let l = lent (planned c) in
+    let n = ap (λ (r : Answer). r .number) (planned c .plan .ensures .0) in
+    printed-planned (entry l .args .ticket .now) (l .before .blank .result) (l .scratch .result) (space l)
+    (λ i. omega (arith, known .shared-slice-known .given i)) (sym n ∙ c .if1 .left)
 
 array-share-prefix-out : tie.Need-array-share-prefix-out
 array-share-prefix-out c =
-    let p = c .before .before .before .plan .ensures in
+    let p = planned c .plan .ensures in
     omega (arith, said c .1 .length-fits, ap (λ (r : Answer). r .length) (p .0), ap length (p .1 .0))
 
 slice-aggregate-read-record : tie.Need-slice-aggregate-read-record
 slice-aggregate-read-record c =
-    sym (length-take-le (c .before .before .before .before .plan .result .length) (c .before .before .before .before .plan .last .1 .0) (array-share-prefix-out (c .before)))
+    let p = planned (c .before) .plan in
+    sym (length-take-le (p .result .length) (p .last .1 .0) (array-share-prefix-out (c .before)))
 
 read-as : (c : tie.After-read-record) → c .read-record .result .plan ≡ storedState (said (c .before .before) .0)
 read-as c =
-    let p = c .before .before .before .before .before .plan .ensures in
+    let p = planned (c .before .before) .plan in
     ap (λ (r : ReadRecord). r .plan) (c .read-record .ensures)
-    ∙ said-record (said (c .before .before) .1) (c .before .before .before .before .before .plan .result .length) (c .before .before .before .before .before .plan .last .1 .0) (ap (λ (r : Answer). r .length) (p .0)) (p .1 .0)
+    ∙ said-record (said (c .before .before) .1) (p .result .length) (p .last .1 .0) (ap (λ (r : Answer). r .length) (p .ensures .0)) (p .ensures .1 .0)
 
 put-plan-requires : tie.Need-put-plan-requires
 put-plan-requires c κs =
-    let d = said (c .before .before .before .before) .1 in
-    (rw (read-as (c .before .before)) (d .readable .valid .events-limit), search needs)
+    let d = said (search needs) .1 in
+    (rw (read-as (search needs)) (d .readable .valid .events-limit), search needs)
 
 returns-2 : tie.Need-returns-2
 returns-2 c =
-    let d = said (c .before .before .before .before .before .before .before) .1 in
-    let q = puts-as (said-text d (c .before .before .before .before .before .read-record .result .plan) (c .before .before .before .before .before .before .before .before .before .before .plan .result .total) (read-as (c .before .before .before .before .before)) (ap (λ (r : Answer). r .total) (c .before .before .before .before .before .before .before .before .before .before .plan .ensures .0)))
+    let read : tie.After-read-record = search needs in
+    let done : tie.After-plan = search needs in
+    let d = said (search needs) .1 in
+    let q = puts-as
+    (said-text d (read .read-record .result .plan) (done .plan .result .total) (read-as read) (ap (λ (r : Answer). r .total) (done .plan .ensures .0)))
     (c .before .before .put-plan .ensures) in
     (q, puts-counts q)
 
