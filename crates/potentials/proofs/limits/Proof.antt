@@ -19,15 +19,23 @@ loop-holds c = (omega arith, loosened-none _ _ _ _, loosened-none _ _ _ _)
 
 free-requires : tie.Need-free-requires Inv-loop μ-loop
 free-requires c κs =
-    let h = c .before .before .before .before .loop .inv in
-    (omega arith, omega arith, ap length (h .1) ∙ loosened-length _ _ _ _ _ ∙ c .before .before .before .before .before .pre .1 .0, ap length (h .2) ∙ loosened-length _ _ _ _ _ ∙ c .before .before .before .before .before .pre .1 .1)
+    let entry : tie.Start Inv-loop μ-loop = search needs in
+    let at-loop : tie.At-loop Inv-loop μ-loop = search needs in
+    let h = at-loop .loop .inv in
+    (omega arith, omega arith, ap length (h .1) ∙ loosened-length _ _ _ _ _ ∙ entry .pre .1 .0, ap length (h .2) ∙ loosened-length _ _ _ _ _ ∙ entry .pre .1 .1)
 
 loop-again : tie.Need-loop-again Inv-loop μ-loop
 loop-again c =
-    let h = c .before .before .before .before .before .loop .inv in
-    let s = c .before .before .before .before .before .before .args in
-    let i = c .before .before .before .before .before .loop .i in
-    (omega arith, grown-by 0 0 (s .flags .now) i (s .low .now) (omega arith) (h .1) (c .free .ensures .0), grown-by (s .n) (s .horizon) (s .flags .now) i (s .high .now) (omega arith) (h .2) (c .free .ensures .1))
+    let entry : tie.Start Inv-loop μ-loop = search needs in
+    let at-loop : tie.At-loop Inv-loop μ-loop = search needs in
+    let h = at-loop .loop .inv in
+    let s = entry .args in
+    let i = at-loop .loop .i in (
+      omega arith,
+      grown-by 0 0 (s .flags .now) i (s .low .now) (omega arith) (h .1) (c .free .ensures .0),
+      grown-by (s .n) (s .horizon)
+          (s .flags .now) i (s .high .now) (omega arith) (h .2) (c .free .ensures .1),
+    )
 
 returns : tie.Need-returns Inv-loop μ-loop
 returns c =
