@@ -19,14 +19,16 @@ head-most c =
 
 cost-most : (c : tie.After-cost) → c .cost .result ≤ 2000000
 cost-most c =
-    let s = c .before .before .before .before in
+    let s : tie.Start = search needs in
     rw (c .cost .ensures, toZ-ofZ w32 (s .args .bound) (s .fits .bound)) (biased-most (s .args .bound) (s .pre .0 .high))
 
 close-node-requires : tie.Need-close-node-requires
 close-node-requires c κs = omega (arith, c .wide2 .ensures, c .before .before .pre .0 .to-point)
 
 cost-requires : tie.Need-cost-requires
-cost-requires c κs = rw (toZ-ofZ w32 (c .before .before .before .args .bound) (c .before .before .before .fits .bound)) (c .before .before .before .pre .0 .high, c .before .before .before .pre .0 .deep)
+cost-requires c κs =
+    let entry : tie.Start = search needs in
+    rw (toZ-ofZ w32 (entry .args .bound) (entry .fits .bound)) (entry .pre .0 .high, entry .pre .0 .deep)
 
 mul-if1 : tie.Need-mul-if1
 mul-if1 c = omega (arith, head-most (c .before))
@@ -35,22 +37,56 @@ element-copy-out-if1 : tie.Need-element-copy-out-if1
 element-copy-out-if1 c = omega (arith, head-most (c .before))
 
 add-if1 : tie.Need-add-if1
-add-if1 c = omega (arith, c .before .before .before .before .before .pre .1 .2 (c .before .before .close-node .result) (head-most (c .before .before)))
+add-if1 c =
+    let entry : tie.Start = search needs in
+    let after-close-node : tie.After-close-node = search needs in
+    omega (arith, entry .pre .1 .2 (after-close-node .close-node .result) (head-most after-close-node))
 
 mul-if1-2 : tie.Need-mul-if1-2
-mul-if1-2 c = omega (arith, tail-most (c .before .before .before .before))
+mul-if1-2 c = omega (arith, tail-most (search needs))
 
 element-copy-out-if1-2 : tie.Need-element-copy-out-if1-2
-element-copy-out-if1-2 c = omega (arith, tail-most (c .before .before .before .before))
+element-copy-out-if1-2 c = omega (arith, tail-most (search needs))
 
 add-if1-2 : tie.Need-add-if1-2
-add-if1-2 c = omega (arith, c .before .before .before .before .before .before .pre .1 .2 (c .before .before .before .before .before .wide .result) (omega (arith, tail-most (c .before .before .before .before .before))), cost-most (c .before .before))
+add-if1-2 c =
+    let entry : tie.Start = search needs in
+    let after-wide : tie.After-wide = search needs in
+    omega (arith, entry .pre .1 .2 (after-wide .wide .result) (omega (arith, tail-most after-wide)), cost-most (search needs))
 
 returns : tie.Need-returns
-returns c = tests-yes (rw (c .before .before .before .before .before .before .wide .ensures, c .before .before .before .before .close-node .ensures, c .before .before .before .before .before .wide2 .ensures, c .before .before .before .cost .ensures, toZ-ofZ w32 (c .before .before .before .before .before .before .before .args .bound) (c .before .before .before .before .before .before .before .fits .bound)) at (c .if1 .taken))
+returns c =
+    let entry : tie.Start = search needs in
+    let after-wide : tie.After-wide = search needs in
+    let after-wide2 : tie.After-wide2 = search needs in
+    let after-close-node : tie.After-close-node = search needs in
+    let after-cost : tie.After-cost = search needs in
+    tests-yes (rw (
+      after-wide .wide .ensures,
+      after-close-node .close-node .ensures,
+      after-wide2 .wide2 .ensures,
+      after-cost .cost .ensures,
+      toZ-ofZ w32 (entry .args .bound) (entry .fits .bound),
+    ) at (c .if1 .taken))
 
 returns-2 : tie.Need-returns-2
-returns-2 c = tests-no (λ h. omega (arith, h, rw (c .before .before .before .before .before .before .wide .ensures, c .before .before .before .before .close-node .ensures, c .before .before .before .before .before .wide2 .ensures, c .before .before .before .cost .ensures, toZ-ofZ w32 (c .before .before .before .before .before .before .before .args .bound) (c .before .before .before .before .before .before .before .fits .bound)) at (c .if1 .left)))
+returns-2 c =
+    let entry : tie.Start = search needs in
+    let after-wide : tie.After-wide = search needs in
+    let after-wide2 : tie.After-wide2 = search needs in
+    let after-close-node : tie.After-close-node = search needs in
+    let after-cost : tie.After-cost = search needs in
+    tests-no (λ h. omega (
+      arith,
+      h,
+      rw (
+        after-wide .wide .ensures,
+        after-close-node .close-node .ensures,
+        after-wide2 .wide2 .ensures,
+        after-cost .cost .ensures,
+        toZ-ofZ w32 (entry .args .bound) (entry .fits .bound),
+      ) at (c .if1 .left),
+    ))
 
 pub holds-spec : {M : Type 1} → statement M
 holds-spec =

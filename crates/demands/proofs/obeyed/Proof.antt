@@ -19,24 +19,33 @@ loop-holds c = (omega arith, below-none _)
 
 holds-requires : tie.Need-holds-requires Inv-loop μ-loop
 holds-requires c κs =
-    let G = c .before .before .before .before .before .pre .0 in
-    let j = c .before .before .before .before .loop .j in
-    let lj : j < c .before .before .before .before .before .args .t1 .rules = omega arith in
-    (rw (given-bound G j lj) (given-small G j lj), (G .few, c .before .before .before .before .before .pre .1 .0, c .before .before .before .before .before .pre .1 .1))
+    let entry : tie.Start Inv-loop μ-loop = search needs in
+    let at-loop : tie.At-loop Inv-loop μ-loop = search needs in
+    let G = entry .pre .0 in
+    let j = at-loop .loop .j in
+    let lj : j < entry .args .t1 .rules = omega arith in
+    (rw (given-bound G j lj) (given-small G j lj), (G .few, entry .pre .1 .0, entry .pre .1 .1))
 
 loop-again : tie.Need-loop-again Inv-loop μ-loop
 loop-again c =
-    let G = c .before .before .before .before .before .before .before .pre .0 in
-    let j = c .before .before .before .before .before .before .loop .j in
-    let lj : j < c .before .before .before .before .before .before .before .args .t1 .rules = omega arith in
-    let H = rw (given-bound G j lj) at (c .before .holds .ensures) in
-    (omega arith, below-more (λ i. Holds (c .before .before .before .before .before .before .before .args .t1) (c .before .before .before .before .before .before .before .args .n) (at (c .before .before .before .before .before .before .before .args .pot .now)) i) j (c .before .before .before .before .before .before .loop .inv .1) (H .holds (c .if1 .taken)))
+    let entry : tie.Start Inv-loop μ-loop = search needs in
+    let at-loop : tie.At-loop Inv-loop μ-loop = search needs in
+    let G = entry .pre .0 in
+    let j = at-loop .loop .j in
+    let lj : j < entry .args .t1 .rules = omega arith in
+    let H = rw (given-bound G j lj) at (c .before .holds .ensures) in (
+      omega arith,
+      below-more (λ i. Holds (entry .args .t1) (entry .args .n) (at (entry .args .pot .now)) i) j (at-loop .loop .inv .1)
+          (H .holds (c .if1 .taken)),
+    )
 
 returns : tie.Need-returns Inv-loop μ-loop
 returns c =
-    let G = c .before .before .before .before .before .before .before .pre .0 in
-    let j = c .before .before .before .before .before .before .loop .j in
-    let lj : j < c .before .before .before .before .before .before .before .args .t1 .rules = omega arith in
+    let entry : tie.Start Inv-loop μ-loop = search needs in
+    let at-loop : tie.At-loop Inv-loop μ-loop = search needs in
+    let G = entry .pre .0 in
+    let j = at-loop .loop .j in
+    let lj : j < entry .args .t1 .rules = omega arith in
     let H = rw (given-bound G j lj) at (c .before .holds .ensures) in
     tests-no (λ O. H .fails (c .if1 .left) (O j lj))
 

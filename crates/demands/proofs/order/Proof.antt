@@ -23,9 +23,11 @@ put-requires c κs = omega (arith, c .before .before .loop .inv .1 .long)
 
 loop-again : tie.Need-loop-again Inv-loop μ-loop
 loop-again c =
-    let n = c .before .before .before .before .before .before .before .args .n in
-    let i = c .before .before .before .before .before .loop .i in
-    let h = c .before .before .before .before .before .loop .inv in
+    let entry : tie.Start Inv-loop μ-loop = search needs in
+    let at-loop : tie.At-loop Inv-loop μ-loop = search needs in
+    let n = entry .args .n in
+    let i = at-loop .loop .i in
+    let h = at-loop .loop .inv in
     let a : n + i + 1 ≡ n + suc i = omega arith in
     let b : i + 1 ≡ suc i = omega arith in
     let p = c .before .before .put .ensures in
