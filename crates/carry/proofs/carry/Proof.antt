@@ -18,8 +18,8 @@ slice-read-net c =
 
 add-net : tie.Need-add-net
 add-net c =
-    let entry : tie.Start = search needs in
     let after-share : tie.After-share = search needs in
+    let entry : tie.Start = search needs in
     fits-under w32 _ 2000 (wanted-sum (entry .pre .1) (after-share .share .ensures)) tt
 
 slice-write-net : tie.Need-slice-write-net
@@ -29,24 +29,24 @@ slice-write-net c =
 
 take-requires : tie.Need-take-requires
 take-requires c κs =
-    let entry : tie.Start = search needs in
     let after-share : tie.After-share = search needs in
+    let entry : tie.Start = search needs in
     let p = entry .pre in
     (p .1 .supplies, p .0 .tail, after-share .share .ensures .from)
 
 take-requires-2 : tie.Need-take-requires-2
 take-requires-2 c κs =
-    let entry : tie.Start = search needs in
-    let after-share : tie.After-share = search needs in
     let after-event : tie.After-event = search needs in
+    let after-share : tie.After-share = search needs in
+    let entry : tie.Start = search needs in
     let p = entry .pre in
     let event = after-event .event .ensures in
     (p .1 .demands, omega (arith, event, p .0 .head), share-to event (after-share .share .ensures))
 
 returns : tie.Need-returns
 returns c =
-    let after-share : tie.After-share = search needs in
     let after-event : tie.After-event = search needs in
+    let after-share : tie.After-share = search needs in
     carried-some (after-event .event .ensures) (after-share .share .ensures) (c .before .before .take .ensures) (c .take2 .ensures)
 
 returns-2 : tie.Need-returns-2

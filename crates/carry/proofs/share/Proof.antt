@@ -7,9 +7,9 @@ use Rattle.carry.proofs.share.Tie as tie
 
 returns : tie.Need-returns
 returns c =
-    let after-limit : tie.After-limit = search needs in
-    let tight : tie.Then1 = search needs in
     let after-event : tie.After-event = search needs in
+    let tight : tie.Then1 = search needs in
+    let after-limit : tie.After-limit = search needs in
     share-least (after-event .event .ensures) (c .least .ensures) (sym (tight .if1 .taken) ∙ after-limit .limit .ensures)
 
 pub share-spec : {M : Type 1} → statement M

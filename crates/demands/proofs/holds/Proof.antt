@@ -38,8 +38,8 @@ element-copy-out-if1 c = omega (arith, head-most (c .before))
 
 add-if1 : tie.Need-add-if1
 add-if1 c =
-    let entry : tie.Start = search needs in
     let after-close-node : tie.After-close-node = search needs in
+    let entry : tie.Start = search needs in
     omega (arith, entry .pre .1 .2 (after-close-node .close-node .result) (head-most after-close-node))
 
 mul-if1-2 : tie.Need-mul-if1-2
@@ -50,17 +50,17 @@ element-copy-out-if1-2 c = omega (arith, tail-most (search needs))
 
 add-if1-2 : tie.Need-add-if1-2
 add-if1-2 c =
-    let entry : tie.Start = search needs in
     let after-wide : tie.After-wide = search needs in
+    let entry : tie.Start = search needs in
     omega (arith, entry .pre .1 .2 (after-wide .wide .result) (omega (arith, tail-most after-wide)), cost-most (search needs))
 
 returns : tie.Need-returns
 returns c =
-    let entry : tie.Start = search needs in
-    let after-wide : tie.After-wide = search needs in
-    let after-wide2 : tie.After-wide2 = search needs in
-    let after-close-node : tie.After-close-node = search needs in
     let after-cost : tie.After-cost = search needs in
+    let after-close-node : tie.After-close-node = search needs in
+    let after-wide2 : tie.After-wide2 = search needs in
+    let after-wide : tie.After-wide = search needs in
+    let entry : tie.Start = search needs in
     tests-yes (rw (
       after-wide .wide .ensures,
       after-close-node .close-node .ensures,
@@ -71,11 +71,11 @@ returns c =
 
 returns-2 : tie.Need-returns-2
 returns-2 c =
-    let entry : tie.Start = search needs in
-    let after-wide : tie.After-wide = search needs in
-    let after-wide2 : tie.After-wide2 = search needs in
-    let after-close-node : tie.After-close-node = search needs in
     let after-cost : tie.After-cost = search needs in
+    let after-close-node : tie.After-close-node = search needs in
+    let after-wide2 : tie.After-wide2 = search needs in
+    let after-wide : tie.After-wide = search needs in
+    let entry : tie.Start = search needs in
     tests-no (λ h. omega (
       arith,
       h,

@@ -19,8 +19,8 @@ loop-holds c = (omega arith, below-none _)
 
 holds-requires : tie.Need-holds-requires Inv-loop μ-loop
 holds-requires c κs =
-    let entry : tie.Start Inv-loop μ-loop = search needs in
     let at-loop : tie.At-loop Inv-loop μ-loop = search needs in
+    let entry : tie.Start Inv-loop μ-loop = search needs in
     let G = entry .pre .0 in
     let j = at-loop .loop .j in
     let lj : j < entry .args .t1 .rules = omega arith in
@@ -28,8 +28,8 @@ holds-requires c κs =
 
 loop-again : tie.Need-loop-again Inv-loop μ-loop
 loop-again c =
-    let entry : tie.Start Inv-loop μ-loop = search needs in
     let at-loop : tie.At-loop Inv-loop μ-loop = search needs in
+    let entry : tie.Start Inv-loop μ-loop = search needs in
     let G = entry .pre .0 in
     let j = at-loop .loop .j in
     let lj : j < entry .args .t1 .rules = omega arith in
@@ -41,8 +41,8 @@ loop-again c =
 
 returns : tie.Need-returns Inv-loop μ-loop
 returns c =
-    let entry : tie.Start Inv-loop μ-loop = search needs in
     let at-loop : tie.At-loop Inv-loop μ-loop = search needs in
+    let entry : tie.Start Inv-loop μ-loop = search needs in
     let G = entry .pre .0 in
     let j = at-loop .loop .j in
     let lj : j < entry .args .t1 .rules = omega arith in

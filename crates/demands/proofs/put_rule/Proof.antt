@@ -17,8 +17,8 @@ cost-requires c κs =
 
 put-requires : tie.Need-put-requires
 put-requires c κs =
-    let s : tie.Start = search needs in
     let after-wide : tie.After-wide = search needs in
+    let s : tie.Start = search needs in
     let after-close-node : tie.After-close-node = search needs in (
       omega arith,
       omega (arith, c .before .wide2 .ensures, s .pre .0 .from-point),
@@ -27,11 +27,11 @@ put-requires c κs =
 
 returns : tie.Need-returns
 returns c =
-    let entry : tie.Start = search needs in
-    let after-wide : tie.After-wide = search needs in
-    let after-close-node : tie.After-close-node = search needs in
-    let after-wide2 : tie.After-wide2 = search needs in
     let after-cost : tie.After-cost = search needs in
+    let after-wide2 : tie.After-wide2 = search needs in
+    let after-close-node : tie.After-close-node = search needs in
+    let after-wide : tie.After-wide = search needs in
+    let entry : tie.Start = search needs in
     rw (
       after-wide2 .wide2 .ensures,
       after-close-node .close-node .ensures,

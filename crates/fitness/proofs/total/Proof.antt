@@ -40,8 +40,8 @@ element-copy-out-part-3 c = omega (arith, given (search needs) .few)
 
 part-requires : tie.Need-part-requires Inv-loop μ-loop
 part-requires c κs =
-    let entry : tie.Start Inv-loop μ-loop = search needs in
     let at-loop : tie.At-loop Inv-loop μ-loop = search needs in
+    let entry : tie.Start Inv-loop μ-loop = search needs in
     let l = lie-at (entry .args .t1) _ _ (entry .pre .1) (at-loop .loop .i) (omega arith) in
     (l .0, omega (arith, l .1, given entry .top))
 
@@ -53,8 +53,8 @@ add-i c = omega (arith, given (search needs) .few)
 
 loop-again : tie.Need-loop-again Inv-loop μ-loop
 loop-again c =
-    let entry : tie.Start Inv-loop μ-loop = search needs in
     let at-loop : tie.At-loop Inv-loop μ-loop = search needs in
+    let entry : tie.Start Inv-loop μ-loop = search needs in
     let h = at-loop .loop .inv in
     let p = c .part .ensures in (
       omega arith,

@@ -19,24 +19,24 @@ returns c =
 
 commit-bytes-requires : tie.Need-commit-bytes-requires
 commit-bytes-requires c κs =
-    let entry : tie.Start = search needs in
     let after-short : tie.After-short = search needs in
+    let entry : tie.Start = search needs in
     let l = long-enough (entry .args .out .now) (entry .args .scratch .now) (after-short .short .ensures) (c .before .before .if1 .left) in
     (l .0, omega (arith, l .1))
 
 clear-requires : tie.Need-clear-requires
 clear-requires c κs =
-    let entry : tie.Start = search needs in
-    let after-short : tie.After-short = search needs in
     let roomy : tie.Else1 = search needs in
+    let after-short : tie.After-short = search needs in
+    let entry : tie.Start = search needs in
     omega (arith, long-enough (entry .args .out .now) (entry .args .scratch .now) (after-short .short .ensures) (roomy .if1 .left))
 
 returns-2 : tie.Need-returns-2
 returns-2 c =
-    let entry : tie.Start = search needs in
-    let after-short : tie.After-short = search needs in
-    let roomy : tie.Else1 = search needs in
     let after-commit-bytes : tie.After-commit-bytes = search needs in
+    let roomy : tie.Else1 = search needs in
+    let after-short : tie.After-short = search needs in
+    let entry : tie.Start = search needs in
     let s = entry .args in
     whole-read (s .out .now) (s .scratch .now) (λ (x : State). commit x (asking (s .event) (s .opens) (s .closes))) (wholly readState (s .record .now))
     (committing-read (s .record .now) (s .event) (s .opens) (s .closes) (s .out .now) (s .scratch .now)

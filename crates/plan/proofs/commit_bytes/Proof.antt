@@ -14,17 +14,17 @@ refusal-requires c κs = search needs
 
 returns : tie.Need-returns
 returns c =
-    let entry : tie.Start = search needs in
     let after-read-record : tie.After-read-record = search needs in
+    let entry : tie.Start = search needs in
     record-misread (entry .args .record .now) (after-read-record .read-record .ensures)
     (λ (s : State). commit s (asking (entry .args .event) (entry .args .opens) (entry .args .closes))) (c .before .if1 .taken) (c .refusal .ensures)
 
 commit-record-requires : tie.Need-commit-record-requires
 commit-record-requires c κs =
-    let entry : tie.Start = search needs in
-    let known : tie.After-shared-slice-known = search needs in
-    let after-read-record : tie.After-read-record = search needs in
     let parsed : tie.Else1 = search needs in
+    let after-read-record : tie.After-read-record = search needs in
+    let known : tie.After-shared-slice-known = search needs in
+    let entry : tie.Start = search needs in
     let read = record-read (entry .args .record .now) (after-read-record .read-record .ensures)
     (λ (s : State). commit s (asking (entry .args .event) (entry .args .opens) (entry .args .closes))) (parsed .if1 .left)
     (λ i. omega (arith, known .shared-slice-known .given i)) in
@@ -38,11 +38,11 @@ same-length-2 c = search needs
 
 returns-2 : tie.Need-returns-2
 returns-2 c =
-    let entry : tie.Start = search needs in
-    let known : tie.After-shared-slice-known = search needs in
-    let after-read-record : tie.After-read-record = search needs in
-    let parsed : tie.Else1 = search needs in
     let after-commit-record : tie.After-commit-record = search needs in
+    let parsed : tie.Else1 = search needs in
+    let after-read-record : tie.After-read-record = search needs in
+    let known : tie.After-shared-slice-known = search needs in
+    let entry : tie.Start = search needs in
     record-meets (entry .args .record .now) (after-read-record .read-record .ensures)
     (λ (s : State). commit s (asking (entry .args .event) (entry .args .opens) (entry .args .closes))) (parsed .if1 .left)
     (λ i. omega (arith, known .shared-slice-known .given i)) (entry .args .out .now) (after-commit-record .commit-record .ensures)

@@ -19,24 +19,24 @@ returns c =
 
 plan-bytes-requires : tie.Need-plan-bytes-requires
 plan-bytes-requires c κs =
-    let entry : tie.Start = search needs in
     let after-short : tie.After-short = search needs in
+    let entry : tie.Start = search needs in
     let l = long-enough (entry .args .out .now) (entry .args .scratch .now) (after-short .short .ensures) (c .before .before .if1 .left) in
     (l .0, omega (arith, l .1))
 
 clear-requires : tie.Need-clear-requires
 clear-requires c κs =
-    let entry : tie.Start = search needs in
-    let after-short : tie.After-short = search needs in
     let roomy : tie.Else1 = search needs in
+    let after-short : tie.After-short = search needs in
+    let entry : tie.Start = search needs in
     omega (arith, long-enough (entry .args .out .now) (entry .args .scratch .now) (after-short .short .ensures) (roomy .if1 .left))
 
 returns-2 : tie.Need-returns-2
 returns-2 c =
-    let entry : tie.Start = search needs in
-    let after-short : tie.After-short = search needs in
-    let roomy : tie.Else1 = search needs in
     let after-plan-bytes : tie.After-plan-bytes = search needs in
+    let roomy : tie.Else1 = search needs in
+    let after-short : tie.After-short = search needs in
+    let entry : tie.Start = search needs in
     let s = entry .args in
     whole-read (s .out .now) (s .scratch .now) plan (wholly readTicket (s .ticket .now))
     (planning-read (s .ticket .now) (s .out .now) (s .scratch .now)

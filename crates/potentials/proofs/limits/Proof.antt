@@ -19,15 +19,15 @@ loop-holds c = (omega arith, loosened-none _ _ _ _, loosened-none _ _ _ _)
 
 free-requires : tie.Need-free-requires Inv-loop μ-loop
 free-requires c κs =
-    let entry : tie.Start Inv-loop μ-loop = search needs in
     let at-loop : tie.At-loop Inv-loop μ-loop = search needs in
+    let entry : tie.Start Inv-loop μ-loop = search needs in
     let h = at-loop .loop .inv in
     (omega arith, omega arith, ap length (h .1) ∙ loosened-length _ _ _ _ _ ∙ entry .pre .1 .0, ap length (h .2) ∙ loosened-length _ _ _ _ _ ∙ entry .pre .1 .1)
 
 loop-again : tie.Need-loop-again Inv-loop μ-loop
 loop-again c =
-    let entry : tie.Start Inv-loop μ-loop = search needs in
     let at-loop : tie.At-loop Inv-loop μ-loop = search needs in
+    let entry : tie.Start Inv-loop μ-loop = search needs in
     let h = at-loop .loop .inv in
     let s = entry .args in
     let i = at-loop .loop .i in (

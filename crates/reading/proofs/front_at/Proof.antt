@@ -37,8 +37,8 @@ returns-3 c =
 returns-4 : tie.Need-returns-4
 unfolding number
 returns-4 c =
-    let entry : tie.Start = search needs in
     let after-u32-at : tie.After-u32-at = search needs in
+    let entry : tie.Start = search needs in
     let a = entry .args in
     let s = a .s .now in
     let h = after-u32-at .u32-at in
@@ -48,9 +48,9 @@ returns-4 c =
 returns-5 : tie.Need-returns-5
 unfolding number
 returns-5 c =
-    let entry : tie.Start = search needs in
-    let after-u32-at : tie.After-u32-at = search needs in
     let horizon-fits : tie.Else3 = search needs in
+    let after-u32-at : tie.After-u32-at = search needs in
+    let entry : tie.Start = search needs in
     let a = entry .args in
     let h = after-u32-at .u32-at in
     let n = c .before .before .u16-at in
@@ -59,9 +59,9 @@ returns-5 c =
 
 returns-6 : tie.Need-returns-6
 returns-6 c =
-    let entry : tie.Start = search needs in
-    let after-u32-at : tie.After-u32-at = search needs in
     let horizon-fits : tie.Else3 = search needs in
+    let after-u32-at : tie.After-u32-at = search needs in
+    let entry : tie.Start = search needs in
     let a = entry .args in
     let h = after-u32-at .u32-at in
     let n = c .before .u16-at in

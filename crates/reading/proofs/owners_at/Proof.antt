@@ -41,8 +41,8 @@ sub-if1 c = omega arith
 returns : tie.Need-returns Inv-loop μ-loop
 unfolding number
 returns c =
-    let entry : tie.Start Inv-loop μ-loop = search needs in
     let at-loop : tie.At-loop Inv-loop μ-loop = search needs in
+    let entry : tie.Start Inv-loop μ-loop = search needs in
     let a = entry .args in
     let l = at-loop .loop in
     let s = a .s .now in
@@ -58,8 +58,8 @@ shared-slice-read-b c = omega arith
 returns-2 : tie.Need-returns-2 Inv-loop μ-loop
 unfolding number
 returns-2 c =
-    let entry : tie.Start Inv-loop μ-loop = search needs in
     let at-loop : tie.At-loop Inv-loop μ-loop = search needs in
+    let entry : tie.Start Inv-loop μ-loop = search needs in
     let a = entry .args in
     let l = at-loop .loop in
     let s = a .s .now in
@@ -77,8 +77,8 @@ loop-less c = omega arith
 
 loop-again : tie.Need-loop-again Inv-loop μ-loop
 loop-again c =
-    let entry : tie.Start Inv-loop μ-loop = search needs in
     let at-loop : tie.At-loop Inv-loop μ-loop = search needs in
+    let entry : tie.Start Inv-loop μ-loop = search needs in
     let a = entry .args in
     let l = at-loop .loop in
     let s = a .s .now in

@@ -22,10 +22,10 @@ refused-ticket-requires c κs = search needs
 returns : tie.Need-returns
 unfolding number
 returns c =
-    let entry : tie.Start = search needs in
-    let known : tie.After-shared-slice-known = search needs in
-    let after-first-ticket : tie.After-first-ticket = search needs in
     let parsed : tie.Then1 = search needs in
+    let after-first-ticket : tie.After-first-ticket = search needs in
+    let known : tie.After-shared-slice-known = search needs in
+    let entry : tie.Start = search needs in
     let s = entry .args .s .now in
     let r = after-first-ticket .first-ticket in
     c .refused-ticket .ensures
@@ -35,9 +35,9 @@ returns c =
 
 returns-2 : tie.Need-returns-2
 returns-2 c =
-    let entry : tie.Start = search needs in
-    let known : tie.After-shared-slice-known = search needs in
     let after-first-ticket : tie.After-first-ticket = search needs in
+    let known : tie.After-shared-slice-known = search needs in
+    let entry : tie.Start = search needs in
     let s = entry .args .s .now in
     let r = after-first-ticket .first-ticket in
     whole-done writeTicket Valid readTicket ticket-back size (λ a v. length-ticket a) (λ y. y .number) (λ y. y .next) (answer 0) (λ a u. refl)

@@ -73,8 +73,8 @@ returns-2 c =
 
 returns-3 : tie.Need-returns-3
 returns-3 c =
-    let r : tie.Else2 = search needs in
     let l : tie.After-other-at2 = search needs in
+    let r : tie.Else2 = search needs in
     let a = entry (count-read r) .args in
     let s = a .s .now in
     let w = windows-known r in

@@ -22,10 +22,10 @@ refused-record-requires c κs = search needs
 returns : tie.Need-returns
 unfolding number
 returns c =
-    let entry : tie.Start = search needs in
-    let known : tie.After-shared-slice-known = search needs in
-    let after-first-record : tie.After-first-record = search needs in
     let parsed : tie.Then1 = search needs in
+    let after-first-record : tie.After-first-record = search needs in
+    let known : tie.After-shared-slice-known = search needs in
+    let entry : tie.Start = search needs in
     let s = entry .args .s .now in
     let r = after-first-record .first-record in
     c .refused-record .ensures
@@ -34,9 +34,9 @@ returns c =
 
 returns-2 : tie.Need-returns-2
 returns-2 c =
-    let entry : tie.Start = search needs in
-    let known : tie.After-shared-slice-known = search needs in
     let after-first-record : tie.After-first-record = search needs in
+    let known : tie.After-shared-slice-known = search needs in
+    let entry : tie.Start = search needs in
     let s = entry .args .s .now in
     let r = after-first-record .first-record in
     whole-done writeState Readable readState state-back stateSize length-readable (λ y. y .number) (λ y. y .next) (planned 0) (λ a u. refl)

@@ -23,9 +23,9 @@ returns c =
 
 returns-2 : tie.Need-returns-2
 returns-2 c =
-    let entry : tie.Start = search needs in
-    let after-u32-at : tie.After-u32-at = search needs in
     let after-u32-at2 : tie.After-u32-at2 = search needs in
+    let after-u32-at : tie.After-u32-at = search needs in
+    let entry : tie.Start = search needs in
     let a = entry .args in
     let s = a .s .now in
     let f = getD s (a .at) 0 in
@@ -39,8 +39,8 @@ returns-2 c =
 
 returns-3 : tie.Need-returns-3
 returns-3 c =
-    let entry : tie.Start = search needs in
     let after-u32-at : tie.After-u32-at = search needs in
+    let entry : tie.Start = search needs in
     let a = entry .args in
     let s = a .s .now in
     let f = getD s (a .at) 0 in

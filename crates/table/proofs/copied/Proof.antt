@@ -21,21 +21,21 @@ loop-holds c = (omega arith, gathered-none _ (c .no-rules .ensures))
 
 put-rule-requires : tie.Need-put-rule-requires Inv-loop μ-loop
 put-rule-requires c κs =
-    let after-taken : tie.After-taken Inv-loop μ-loop = search needs in
     let at-loop : tie.At-loop Inv-loop μ-loop = search needs in
+    let after-taken : tie.After-taken Inv-loop μ-loop = search needs in
     (omega (arith, after-taken .taken .ensures .0), at-loop .loop .inv .1 .sized)
 
 loop-again : tie.Need-loop-again Inv-loop μ-loop
 loop-again c =
-    let at-loop : tie.At-loop Inv-loop μ-loop = search needs in
     let after-c : tie.After-c Inv-loop μ-loop = search needs in
+    let at-loop : tie.At-loop Inv-loop μ-loop = search needs in
     let stored = rw (toZ-ofZ (sfits-of (after-c .c .given))) at (c .put-rule .ensures) in
     (omega arith, gathered-more _ refl stored (at-loop .loop .inv .1))
 
 returns : tie.Need-returns Inv-loop μ-loop
 returns c =
-    let entry : tie.Start Inv-loop μ-loop = search needs in
     let after-taken : tie.After-taken Inv-loop μ-loop = search needs in
+    let entry : tie.Start Inv-loop μ-loop = search needs in
     λ few.
     let whole = after-taken .taken .ensures .1 .1 few in
     let end : c .before .loop .e ≡ entry .args .count = omega arith in

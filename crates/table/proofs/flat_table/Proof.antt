@@ -80,8 +80,8 @@ closure-requires c κs =
 
 write-requires : tie.Need-write-requires
 write-requires c κs =
-    let r : tie.After-ruled = search needs in
     let t : tie.Then6 = search needs in
+    let r : tie.After-ruled = search needs in
     ((omega arith, omega arith), closed-small _ _ _ (valid (r .before)) _ (same r) _ (t .before .closure .ensures) (t .if6 .taken))
 
 same-length : tie.Need-same-length
@@ -89,8 +89,8 @@ same-length c = search needs
 
 returns-6 : tie.Need-returns-6
 returns-6 c = λ rs long eq.
-    let s : tie.Start = search needs in
     let r : tie.After-ruled = search needs in
+    let s : tie.Start = search needs in
     let v = valid (r .before) in
     let t : tie.Then6 = search needs in
     let closed = t .before .closure .ensures in
@@ -103,8 +103,8 @@ returns-6 c = λ rs long eq.
 
 returns-7 : tie.Need-returns-7
 returns-7 c = λ rs long eq.
-    let s : tie.Start = search needs in
     let r : tie.After-ruled = search needs in
+    let s : tie.Start = search needs in
     let v = valid (r .before) in
     let none = cause-last (s .args .horizon) (s .args .events) (held s) (length (s .args .out .now)) (omega arith) (omega arith) (omega arith) (omega (arith, held-length s)) false
     (passed (r .before)) (closed-none _ _ _ v _ (same r) _ (c .before .closure .ensures) (c .if6 .left)) in

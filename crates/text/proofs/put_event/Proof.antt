@@ -10,9 +10,9 @@ use Rattle.text.proofs.put_event.Tie as tie
 returns : tie.Need-returns
 unfolding line
 returns c =
-    let after-put-part : tie.After-put-part = search needs in
-    let after-put-part2 : tie.After-put-part2 = search needs in
     let after-put-part3 : tie.After-put-part3 = search needs in
+    let after-put-part2 : tie.After-put-part2 = search needs in
+    let after-put-part : tie.After-put-part = search needs in
     let p = after-put-part .put-part .ensures in
     let q = after-put-part2 .put-part2 .ensures in
     let r = after-put-part3 .put-part3 .ensures in

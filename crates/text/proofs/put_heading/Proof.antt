@@ -10,8 +10,8 @@ use Rattle.text.proofs.put_heading.Tie as tie
 returns : tie.Need-returns
 unfolding line
 returns c =
-    let after-put-word : tie.After-put-word = search needs in
     let after-put-part : tie.After-put-part = search needs in
+    let after-put-word : tie.After-put-word = search needs in
     let w = after-put-word .put-word .ensures in
     let p = after-put-part .put-part .ensures in
     let q = c .before .before .put-part2 .ensures in

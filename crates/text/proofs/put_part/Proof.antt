@@ -16,15 +16,15 @@ put-number-requires c κs = omega (arith, ten (c .before .before))
 
 put-byte-requires : tie.Need-put-byte-requires
 put-byte-requires c κs =
-    let entry : tie.Start = search needs in
     let after-put-number : tie.After-put-number = search needs in
+    let entry : tie.Start = search needs in
     let p = after-put-number .put-number .ensures in
     omega (arith, ten entry, p .end, puts-length p)
 
 returns : tie.Need-returns
 returns c =
-    let entry : tie.Start = search needs in
     let after-put-number : tie.After-put-number = search needs in
+    let entry : tie.Start = search needs in
     let p = after-put-number .put-number .ensures in
     let q = c .before .before .put-byte .ensures in
     (puts-then p q, omega (arith, ten entry, p .end, q .end))

@@ -25,10 +25,10 @@ loop-holds c = (omega arith, refl, refl)
 
 loop-again : tie.Need-loop-again Inv-loop μ-loop
 loop-again c =
-    let entry : tie.Start Inv-loop μ-loop = search needs in
-    let at-loop : tie.At-loop Inv-loop μ-loop = search needs in
-    let after-c : tie.After-c Inv-loop μ-loop = search needs in
     let after-bits : tie.After-bits Inv-loop μ-loop = search needs in
+    let after-c : tie.After-c Inv-loop μ-loop = search needs in
+    let at-loop : tie.At-loop Inv-loop μ-loop = search needs in
+    let entry : tie.Start Inv-loop μ-loop = search needs in
     let a = entry .args in
     let l = at-loop .loop in
     let p = c .before .before .put-rule in

@@ -26,8 +26,8 @@ element-copy-out-if1 c = omega arith
 returns : tie.Need-returns Inv-loop μ-loop
 unfolding number
 returns c =
-    let entry : tie.Start Inv-loop μ-loop = search needs in
     let at-loop : tie.At-loop Inv-loop μ-loop = search needs in
+    let entry : tie.Start Inv-loop μ-loop = search needs in
     let t = entry .args .t1 in
     let l = at-loop .loop in
     ap verdict
@@ -41,8 +41,8 @@ loop-less c = omega arith
 
 loop-again : tie.Need-loop-again Inv-loop μ-loop
 loop-again c =
-    let entry : tie.Start Inv-loop μ-loop = search needs in
     let at-loop : tie.At-loop Inv-loop μ-loop = search needs in
+    let entry : tie.Start Inv-loop μ-loop = search needs in
     let t = entry .args .t1 in
     let l = at-loop .loop in
     (omega arith, tests-more (testOwner t) [] (l .i) (l .inv .1) ∙ owner-passes t (l .i) (omega arith))

@@ -35,8 +35,8 @@ tested c =
 
 returns : tie.Need-returns Inv-loop μ-loop
 returns c =
-    let entry : tie.Start Inv-loop μ-loop = search needs in
     let at-loop : tie.At-loop Inv-loop μ-loop = search needs in
+    let entry : tie.Start Inv-loop μ-loop = search needs in
     let t = entry .args .t1 in
     let l = at-loop .loop in
     let no = verdict-refused (testRule t (l .i) []) (c .before .rule-cause .result) (tested (c .before)) (c .if1 .taken) in
@@ -46,8 +46,8 @@ returns c =
 
 loop-again : tie.Need-loop-again Inv-loop μ-loop
 loop-again c =
-    let entry : tie.Start Inv-loop μ-loop = search needs in
     let at-loop : tie.At-loop Inv-loop μ-loop = search needs in
+    let entry : tie.Start Inv-loop μ-loop = search needs in
     let t = entry .args .t1 in
     let l = at-loop .loop in (
       omega arith,

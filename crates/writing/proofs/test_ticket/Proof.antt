@@ -37,8 +37,8 @@ returns-3 c =
 returns-4 : tie.Need-returns-4
 unfolding number
 returns-4 c =
-    let entry : tie.Start = search needs in
     let after-test-owners : tie.After-test-owners = search needs in
+    let entry : tie.Start = search needs in
     let t = entry .args .t in
     let k = after-test-owners .test-owners in
     let passed = verdict-passed (tests (t .events) (testOwner t)) (tests-fixed (testOwner t) [] (owner-fixed t) (t .events)) [] (k .result) (k .ensures) (c .before .before .if3 .left) in
@@ -49,9 +49,9 @@ test-rules-requires c κs = search needs
 
 returns-5 : tie.Need-returns-5
 returns-5 c =
-    let entry : tie.Start = search needs in
-    let after-test-owners : tie.After-test-owners = search needs in
     let owners-fit : tie.Else3 = search needs in
+    let after-test-owners : tie.After-test-owners = search needs in
+    let entry : tie.Start = search needs in
     let t = entry .args .t in
     let k = after-test-owners .test-owners in
     let passed = verdict-passed (tests (t .events) (testOwner t)) (tests-fixed (testOwner t) [] (owner-fixed t) (t .events)) [] (k .result)

@@ -64,8 +64,8 @@ same-length c = search needs
 
 returns-3 : tie.Need-returns-3
 returns-3 c =
-    let entry : tie.Start = search needs in
     let tested : tie.Else2 = search needs in
+    let entry : tie.Start = search needs in
     let o = entry .args .out .now in
     let t = entry .args .t in
     let e = test-passes o t (omega arith) (passed tested) in

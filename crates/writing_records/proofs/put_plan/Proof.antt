@@ -11,9 +11,9 @@ use Rattle.writing_records.proofs.put_plan.Tie as tie
 
 returns : tie.Need-returns
 returns c =
-    let entry : tie.Start = search needs in
-    let after-put-u16 : tie.After-put-u16 = search needs in
     let after-put-windows : tie.After-put-windows = search needs in
+    let after-put-u16 : tie.After-put-u16 = search needs in
+    let entry : tie.Start = search needs in
     let a = entry .args in
     let r = a .t1 in
     let n = r .ticket .events in

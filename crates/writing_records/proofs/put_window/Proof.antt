@@ -18,8 +18,8 @@ same-length c =
 
 returns : tie.Need-returns
 returns c =
-    let entry : tie.Start = search needs in
     let after-put-u32 : tie.After-put-u32 = search needs in
+    let entry : tie.Start = search needs in
     let a = entry .args in
     let l = set (a .out .now) (a .at) (a .flag) in
     let one : a .at + 1 ≡ suc (a .at) = omega arith in

@@ -21,8 +21,8 @@ loop-holds c = (omega arith, omega arith, refl)
 
 loop-again : tie.Need-loop-again Inv-loop μ-loop
 loop-again c =
-    let entry : tie.Start Inv-loop μ-loop = search needs in
     let at-loop : tie.At-loop Inv-loop μ-loop = search needs in
+    let entry : tie.Start Inv-loop μ-loop = search needs in
     let r = entry .args .t1 in
     let l = at-loop .loop in
     (omega arith, omega (arith, c .one .ensures .1), omega (arith, l .inv .2, c .one .ensures .0, flags-firsts (l .i) (committedIn r)))

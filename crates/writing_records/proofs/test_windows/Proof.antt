@@ -31,8 +31,8 @@ tested c = window-tested (head c .before .args .t1) (head c .loop .i) (c .window
 
 returns : tie.Need-returns Inv-loop μ-loop
 returns c =
-    let entry : tie.Start Inv-loop μ-loop = search needs in
     let at-loop : tie.At-loop Inv-loop μ-loop = search needs in
+    let entry : tie.Start Inv-loop μ-loop = search needs in
     let r = entry .args .t1 in
     let l = at-loop .loop in
     let no = verdict-refused (testWindow r (l .i) []) (c .before .window-cause .result) (tested (c .before)) (c .if1 .taken) in
@@ -42,8 +42,8 @@ returns c =
 
 loop-again : tie.Need-loop-again Inv-loop μ-loop
 loop-again c =
-    let entry : tie.Start Inv-loop μ-loop = search needs in
     let at-loop : tie.At-loop Inv-loop μ-loop = search needs in
+    let entry : tie.Start Inv-loop μ-loop = search needs in
     let r = entry .args .t1 in
     let l = at-loop .loop in (
       omega arith,
