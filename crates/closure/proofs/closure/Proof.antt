@@ -29,10 +29,13 @@ possible-requires c κs = omega arith
 
 returns : tie.Need-returns Inv-loop μ-loop
 returns c =
-    let loop = c .before .before .before .before .loop in
-    let args = c .before .before .before .before .before .args in
-    closing-stop (args .n) (entry (args .start)) (entry (loop .w)) (loop .s) (loop .inv .1) (entry (c .before .before .relaxed .result))
-    (c .before .before .relaxed .ensures) (omega arith) (c .before .possible .ensures .bad (not-true _ (c .if1 .taken)))
+    let after-relaxed : tie.After-relaxed Inv-loop μ-loop = search needs in
+    let at-loop : tie.At-loop Inv-loop μ-loop = search needs in
+    let start : tie.Start Inv-loop μ-loop = search needs in
+    let loop = at-loop .loop in
+    let args = start .args in
+    closing-stop (args .n) (entry (args .start)) (entry (loop .w)) (loop .s) (loop .inv .1) (entry (after-relaxed .relaxed .result))
+    (after-relaxed .relaxed .ensures) (omega arith) (c .before .possible .ensures .bad (not-true _ (c .if1 .taken)))
 
 add-s : tie.Need-add-s Inv-loop μ-loop
 add-s c = search needs
@@ -42,11 +45,14 @@ loop-less c = search needs
 
 loop-again : tie.Need-loop-again Inv-loop μ-loop
 loop-again c =
-    let loop = c .before .before .before .before .loop in
-    let args = c .before .before .before .before .before .args in (
+    let after-relaxed : tie.After-relaxed Inv-loop μ-loop = search needs in
+    let at-loop : tie.At-loop Inv-loop μ-loop = search needs in
+    let start : tie.Start Inv-loop μ-loop = search needs in
+    let loop = at-loop .loop in
+    let args = start .args in (
       omega arith,
-      closing-more (args .n) (entry (args .start)) (entry (loop .w)) (loop .s) (loop .inv .1) (entry (c .before .before .relaxed .result))
-          (c .before .before .relaxed .ensures) (c .before .possible .ensures .good (not-false _ (c .if1 .left))),
+      closing-more (args .n) (entry (args .start)) (entry (loop .w)) (loop .s) (loop .inv .1) (entry (after-relaxed .relaxed .result))
+          (after-relaxed .relaxed .ensures) (c .before .possible .ensures .good (not-false _ (c .if1 .left))),
     )
 
 returns-2 : tie.Need-returns-2 Inv-loop μ-loop

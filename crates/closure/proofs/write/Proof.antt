@@ -37,8 +37,9 @@ loop-less c = search needs
 
 loop-again : tie.Need-loop-again Inv-loop μ-loop
 loop-again c =
-    let loop = c .before .before .before .before .loop in
-    let start = c .before .before .before .before .before in (
+    let at-loop : tie.At-loop Inv-loop μ-loop = search needs in
+    let start : tie.Start Inv-loop μ-loop = search needs in
+    let loop = at-loop .loop in (
       omega arith,
       rw (c .before .put .ensures)
           (writing-more (start .args .n) (start .args .t1) (start .args .out .now) (loop .out) (loop .p) (omega arith) (omega arith) (loop .inv .1)),
