@@ -20,13 +20,16 @@ loop-holds c = (omega arith, omega arith, refl, boxes-none _ _ _, λ i l. refl)
 
 put-box-requires : tie.Need-put-box-requires Inv-loop μ-loop
 put-box-requires c κs =
-    let h = c .before .before .before .before .loop .inv in
-    let b = c .before .before .before .before .before .before .pre .1 (c .before .before .before .before .loop .v) (h .0) (omega arith) in
+    let at-loop : tie.At-loop Inv-loop μ-loop = search needs in
+    let entry : tie.Start Inv-loop μ-loop = search needs in
+    let h = at-loop .loop .inv in
+    let b = entry .pre .1 (at-loop .loop .v) (h .0) (omega arith) in
     (h .0, omega arith, omega arith, b .0, b .1)
 
 loop-again : tie.Need-loop-again Inv-loop μ-loop
 loop-again c =
-    let h = c .before .before .before .before .before .before .before .loop .inv in
+    let at-loop : tie.At-loop Inv-loop μ-loop = search needs in
+    let h = at-loop .loop .inv in
     let p = c .before .before .put-box .ensures in
     (omega arith, omega arith, p .extends .long ∙ h .2, boxes-more (h .3) p, λ i l. p .past i (omega arith) ∙ h .4 i (omega arith))
 

@@ -6,7 +6,9 @@ use Rattle.network.proofs.put_box.Statement.{statement}
 use Rattle.network.proofs.put_box.Tie as tie
 
 returns : tie.Need-returns
-returns c = put-box _ _ _ (omega arith) (c .before .before .before .before .before .before .put .ensures) (c .before .before .put2 .ensures)
+returns c =
+    let after-put : tie.After-put = search needs in
+    put-box _ _ _ (omega arith) (after-put .put .ensures) (c .before .before .put2 .ensures)
 
 pub put-box-spec : {M : Type 1} → statement M
 put-box-spec =
