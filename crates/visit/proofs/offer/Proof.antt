@@ -6,10 +6,16 @@ use Rattle.visit.proofs.offer.Statement.{statement}
 use Rattle.visit.proofs.offer.Tie as tie
 
 join-requires : tie.Need-join-requires
-join-requires c κs = (search needs, c .before .before .before .before .before .before .pre .1 (c .before .before .before .before .if1 .taken))
+join-requires c κs =
+    let nearer : tie.Then1 = search needs in
+    let entry : tie.Start = search needs in
+    (search needs, entry .pre .1 (nearer .if1 .taken))
 
 add-result : tie.Need-add-result
-add-result c = omega (arith, c .before .before .before .before .before .before .before .pre .1 (c .before .before .before .before .before .if1 .taken))
+add-result c =
+    let nearer : tie.Then1 = search needs in
+    let entry : tie.Start = search needs in
+    omega (arith, entry .pre .1 (nearer .if1 .taken))
 
 returns : tie.Need-returns
 returns c = record { kept = λ l. absurd (omega arith); lower = λ l n. absurd (omega arith); join = λ l n. let j = c .join .ensures in (j .0, refl, refl, j .1, j .2, refl) }

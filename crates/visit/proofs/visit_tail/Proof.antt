@@ -6,7 +6,9 @@ use Rattle.visit.proofs.visit_tail.Statement.{statement}
 use Rattle.visit.proofs.visit_tail.Tie as tie
 
 returns : tie.Need-returns
-returns c = record { flow = λ _. c .offer .ensures; none = λ z. absurd (omega (arith, c .before .before .before .before .before .before .before .if1 .taken)) }
+returns c =
+    let carrying : tie.Then1 = search needs in
+    record { flow = λ _. c .offer .ensures; none = λ z. absurd (omega (arith, carrying .if1 .taken)) }
 
 returns-2 : tie.Need-returns-2
 returns-2 c = record { flow = λ p. absurd (omega (arith, c .if1 .left)); none = λ _. (refl, refl, refl, refl, refl, refl) }
