@@ -1,12 +1,15 @@
 -- `scan_heads` meets its contract. The invariant: the edges of the list from x on are visited, and x - 1 is the next.
+use Prim.Native.Nat.{_*_, _-_}
 use native.Mathlib.Omega.{arith}
 use mathlib.Core.Path.{refl}
-use Rattle.scan.specs.Sweep.{Sweep, sweep-sizes, sweep-none, follows, head-asks, head-more, sweep-done}
+use Rattle.scan.specs.Sweep.{Sweep, Follows, sweep-sizes, sweep-none, follows, head-asks, head-more, sweep-done}
+use borrow.Author.Needs.{needs}
 use Rattle.scan.proofs.scan_heads.Statement.{statement}
 use Rattle.scan.proofs.scan_heads.Tie as tie
 
 abbrev Inv-loop : tie.InvT-loop
-Inv-loop net m nodes heads pot stamp₀ via₀ dist₀ order₀ key₀ root t s d w base r₀ x₀ stamp via dist order key r x = Sweep net m nodes pot stamp₀ dist₀ order₀ t stamp via dist order key root r s d w 1 x
+Inv-loop net m nodes heads pot stamp₀ via₀ dist₀ order₀ key₀ root t s d w base r₀ x₀ stamp via dist order key r x =
+    Sweep net m nodes pot stamp₀ dist₀ order₀ t stamp via dist order key root r s d w 1 x
 
 abbrev μ-loop : tie.MeasureT-loop
 μ-loop net m nodes heads pot stamp₀ via₀ dist₀ order₀ key₀ root t s d w base r₀ x₀ stamp via dist order key r x = x
@@ -37,51 +40,44 @@ loop-holds c =
     let p = c .before .before .pre in
     sweep-none (p .0) (p .1 .0) (p .1 .1)
 
+-- the start of the function, from a turn of the loop
+abbrev entry : tie.In-loop Inv-loop μ-loop → tie.Start Inv-loop μ-loop
+entry c = c .before .before .before .before
+
+-- the edge that a turn visits, and the next of its list
+step : (c : tie.In-loop Inv-loop μ-loop) → let a = entry c .args in
+    Follows (a .net .now) (a .m) (2 * a .nodes - 2) 1 (a .w) (c .before .loop .x) (a .heads .now)
+step c = follows (entry c .pre .1 .0) (entry c .pre .1 .1) (c .before .loop .inv) (c .loop-test .taken)
+
 visit-head-requires : tie.Need-visit-head-requires Inv-loop μ-loop
 visit-head-requires c κs =
-    let p = c .before .before .before .before .before .before .before .before .before .pre in
-    head-asks (p .1 .0) (p .1 .1) (c .before .before .before .before .before .before .loop .inv) (c .before .before .before .before .before .loop-test .taken) refl
+    let turn : tie.In-loop Inv-loop μ-loop = search needs in
+    let p = entry turn .pre in
+    head-asks (p .1 .0) (p .1 .1) (turn .before .loop .inv) (turn .loop-test .taken) refl
 
 sub-x : tie.Need-sub-x Inv-loop μ-loop
-sub-x c =
-    let p = c .before .before .before .before .before .before .before .before .before .before .pre in
-    let f = follows (p .1 .0) (p .1 .1) (c .before .before .before .before .before .before .before .loop .inv) (c .before .before .before .before .before .before .loop-test .taken) in
-    f .place .0
+sub-x c = step (search needs) .place .0
 
 add-x : tie.Need-add-x Inv-loop μ-loop
-add-x c =
-    let p = c .before .before .before .before .before .before .before .before .before .before .pre in
-    let f = follows (p .1 .0) (p .1 .1) (c .before .before .before .before .before .before .before .loop .inv) (c .before .before .before .before .before .before .loop-test .taken) in
-    omega (arith, f .place)
+add-x c = omega (arith, step (search needs) .place)
 
 mul-x-2 : tie.Need-mul-x-2 Inv-loop μ-loop
-mul-x-2 c =
-    let p = c .before .before .before .before .before .before .before .before .before .before .pre in
-    let f = follows (p .1 .0) (p .1 .1) (c .before .before .before .before .before .before .before .loop .inv) (c .before .before .before .before .before .before .loop-test .taken) in
-    omega (arith, f .place)
+mul-x-2 c = omega (arith, step (search needs) .place)
 
 element-copy-out-x-2 : tie.Need-element-copy-out-x-2 Inv-loop μ-loop
-element-copy-out-x-2 c =
-    let p = c .before .before .before .before .before .before .before .before .before .before .pre in
-    let f = follows (p .1 .0) (p .1 .1) (c .before .before .before .before .before .before .before .loop .inv) (c .before .before .before .before .before .before .loop-test .taken) in
-    f .place .1
+element-copy-out-x-2 c = step (search needs) .place .1
 
 cast-x-2 : tie.Need-cast-x-2 Inv-loop μ-loop
-cast-x-2 c =
-    let p = c .before .before .before .before .before .before .before .before .before .before .before .pre in
-    let f = follows (p .1 .0) (p .1 .1) (c .before .before .before .before .before .before .before .before .loop .inv) (c .before .before .before .before .before .before .before .loop-test .taken) in
-    omega (arith, f .small)
+cast-x-2 c = omega (arith, step (search needs) .small)
 
 loop-less : tie.Need-loop-less Inv-loop μ-loop
-loop-less c =
-    let p = c .before .before .before .before .before .before .before .before .before .before .before .pre in
-    let f = follows (p .1 .0) (p .1 .1) (c .before .before .before .before .before .before .before .before .loop .inv) (c .before .before .before .before .before .before .before .loop-test .taken) in
-    f .less
+loop-less c = step (search needs) .less
 
 loop-again : tie.Need-loop-again Inv-loop μ-loop
 loop-again c =
-    let p = c .before .before .before .before .before .before .before .before .before .before .before .pre in
-    head-more (p .1 .0) (p .1 .1) (c .before .before .before .before .before .before .before .before .loop .inv) (c .before .before .before .before .before .before .before .loop-test .taken) refl (c .before .visit-head .ensures)
+    let turn : tie.In-loop Inv-loop μ-loop = search needs in
+    let p = entry turn .pre in
+    head-more (p .1 .0) (p .1 .1) (turn .before .loop .inv) (turn .loop-test .taken) refl (c .before .visit-head .ensures)
 
 returns : tie.Need-returns Inv-loop μ-loop
 returns c = sweep-done (c .before .loop .inv) (c .loop-test .left)

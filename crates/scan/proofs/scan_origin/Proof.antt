@@ -3,11 +3,13 @@ use native.Mathlib.Omega.{arith}
 use Prim.Native.Nat.{_≤_, _<_, _*_, _-_}
 use mathlib.Core.Path.{_≡_}
 use Rattle.scan.specs.Sweep.{Swept, Below, swept-none, origin-asks, origin-more}
+use borrow.Author.Needs.{needs}
 use Rattle.scan.proofs.scan_origin.Statement.{statement}
 use Rattle.scan.proofs.scan_origin.Tie as tie
 
 abbrev Inv-loop : tie.InvT-loop
-Inv-loop net m nodes pot stamp₀ via₀ dist₀ order₀ key₀ root t s d r₀ v₀ stamp via dist order key r v = (0 < v) × (v ≤ nodes) × Swept net m nodes pot stamp₀ dist₀ order₀ t stamp via dist order key root r s d 0 (Below (2 * v - 2))
+Inv-loop net m nodes pot stamp₀ via₀ dist₀ order₀ key₀ root t s d r₀ v₀ stamp via dist order key r v =
+    (0 < v) × (v ≤ nodes) × Swept net m nodes pot stamp₀ dist₀ order₀ t stamp via dist order key root r s d 0 (Below (2 * v - 2))
 
 abbrev μ-loop : tie.MeasureT-loop
 μ-loop net m nodes pot stamp₀ via₀ dist₀ order₀ key₀ root t s d r₀ v₀ stamp via dist order key r v = nodes - v
@@ -20,13 +22,19 @@ mul-o c = omega (arith, c .before .before .before .pre .0 .network .few)
 
 visit-box-requires : tie.Need-visit-box-requires Inv-loop μ-loop
 visit-box-requires c κs =
-    let a = c .before .before .before .before .before .before .loop in
-    origin-asks (a .v) (c .before .before .before .before .before .before .before .before .pre .1) (a .inv .2) (a .inv .0) (c .before .before .before .before .before .loop-test .taken)
+    let in-loop : tie.In-loop Inv-loop μ-loop = search needs in
+    let at-loop : tie.At-loop Inv-loop μ-loop = search needs in
+    let entry : tie.Start Inv-loop μ-loop = search needs in
+    let a = at-loop .loop in
+    origin-asks (a .v) (entry .pre .1) (a .inv .2) (a .inv .0) (in-loop .loop-test .taken)
 
 loop-again : tie.Need-loop-again Inv-loop μ-loop
 loop-again c =
-    let a = c .before .before .before .before .before .before .before .loop in
-    (omega arith, omega arith, origin-more (a .v) (c .before .before .before .before .before .before .before .before .before .pre .1) (a .inv .2) (a .inv .0) (c .before .before .before .before .before .before .loop-test .taken) (c .visit-box .ensures))
+    let in-loop : tie.In-loop Inv-loop μ-loop = search needs in
+    let at-loop : tie.At-loop Inv-loop μ-loop = search needs in
+    let entry : tie.Start Inv-loop μ-loop = search needs in
+    let a = at-loop .loop in
+    (omega arith, omega arith, origin-more (a .v) (entry .pre .1) (a .inv .2) (a .inv .0) (in-loop .loop-test .taken) (c .visit-box .ensures))
 
 returns : tie.Need-returns Inv-loop μ-loop
 returns c =
