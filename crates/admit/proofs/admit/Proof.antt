@@ -16,46 +16,59 @@ put-requires c κs =
 
 approach-requires : tie.Need-approach-requires
 approach-requires c κs =
-    let p = c .before .before .before .before .before .before .before .before .before .pre in
-    (extends-growing (c .before .before .before .before .before .before .put .ensures .extends) (p .0), (p .1 .tail, p .1 .head, p .1 .cost))
+    let after-put : tie.After-put = search needs in
+    let entry : tie.Start = search needs in
+    let p = entry .pre in
+    (extends-growing (after-put .put .ensures .extends) (p .0), (p .1 .tail, p .1 .head, p .1 .cost))
 
 add-if1 : tie.Need-add-if1
 add-if1 c =
-    let s = c .before .before .before .before .before .before .before .before .before .before .before in
+    let s : tie.Start = search needs in
     let F = c .before .approach .ensures .growing .flowless in
     omega (arith, pot-bound _ _ _ _ (F .network) (F .potential) (s .args .a) (s .pre .1 .tail), s .pre .1 .cost)
 
 add-if1-2 : tie.Need-add-if1-2
 add-if1-2 c =
-    let s = c .before .before .before .before .before .before .before .before .before .before .before .before in
+    let s : tie.Start = search needs in
     let F = c .before .before .approach .ensures .growing .flowless in
     omega (arith, pot-bound _ _ _ _ (F .network) (F .potential) (s .args .b) (s .pre .1 .head))
 
 returns : tie.Need-returns
-returns c = admits-no (c .before .before .before .before .before .before .before .before .before .before .put .ensures) (c .before .before .before .approach .ensures) (c .if1 .taken)
+returns c =
+    let after-approach : tie.After-approach = search needs in
+    let after-put : tie.After-put = search needs in
+    admits-no (after-put .put .ensures) (after-approach .approach .ensures) (c .if1 .taken)
 
 sub-place : tie.Need-sub-place
 sub-place c = omega (arith, listing-fits (c .before .before .before .approach .ensures .growing .flowless .network))
 
 add-place-2 : tie.Need-add-place-2
-add-place-2 c = omega (arith, c .before .before .before .before .before .before .before .before .before .before .before .before .before .pre .1 .room)
+add-place-2 c =
+    let entry : tie.Start = search needs in
+    omega (arith, entry .pre .1 .room)
 
 link-requires : tie.Need-link-requires
 link-requires c κs =
-    let p = c .before .before .before .before .before .before .before .before .before .before .before .before .before .before .pre in
+    let entry : tie.Start = search needs in
+    let p = entry .pre in
     let N = p .0 .flowless .network in
     (p .0 .by-tail .long, omega (arith, p .1 .room), omega (arith, p .1 .tail, N .few), omega (arith, p .1 .room, N .few))
 
 link-requires-2 : tie.Need-link-requires-2
 link-requires-2 c κs =
-    let p = c .before .before .before .before .before .before .before .before .before .before .before .before .before .before .before .before .pre in
+    let entry : tie.Start = search needs in
+    let p = entry .pre in
     let N = p .0 .flowless .network in
     (p .0 .by-head .long, omega (arith, p .1 .room), omega (arith, p .1 .head, N .few), omega (arith, p .1 .room, N .few))
 
 returns-2 : tie.Need-returns-2
 returns-2 c =
-    let a = c .before .before .before .before .before .before .before .approach .ensures in
-    admits-yes (c .before .before .before .before .before .before .before .before .before .before .before .before .before .before .put .ensures) a _ (c .before .before .before .before .before .before .before .before .before .before .before .before .before .before .before .before .before .pre .1) (c .before .before .before .before .if1 .left) refl (c .before .before .link .ensures) (c .link2 .ensures)
+    let met : tie.Else1 = search needs in
+    let after-approach : tie.After-approach = search needs in
+    let after-put : tie.After-put = search needs in
+    let entry : tie.Start = search needs in
+    let a = after-approach .approach .ensures in
+    admits-yes (after-put .put .ensures) a _ (entry .pre .1) (met .if1 .left) refl (c .before .before .link .ensures) (c .link2 .ensures)
 
 pub admit-spec : {M : Type 1} → statement M
 admit-spec =

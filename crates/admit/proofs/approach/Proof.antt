@@ -21,17 +21,19 @@ add-if1-2 c =
 
 reach-requires : tie.Need-reach-requires
 reach-requires c κs =
-    let s = c .before .before .before .before .before .before .before .before in
+    let s : tie.Start = search needs in
     let G = s .pre .0 in
     (G .flowless .network, (G .flowless .potential, (G .by-tail, (G .by-head, (refl, refl, s .pre .1 .0)))))
 
 returns : tie.Need-returns
 returns c =
-    let s = c .before .before .before .before .before .before .before .before .before in
+    let s : tie.Start = search needs in
     approached-search (s .pre .0) _ _ _ (c .reach .ensures .0) (s .pre .1 .1)
 
 returns-2 : tie.Need-returns-2
-returns-2 c = approached-now (c .before .before .before .before .pre .0) (c .if1 .left)
+returns-2 c =
+    let entry : tie.Start = search needs in
+    approached-now (entry .pre .0) (c .if1 .left)
 
 pub approach-spec : {M : Type 1} → statement M
 approach-spec =
