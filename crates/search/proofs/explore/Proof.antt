@@ -2,12 +2,14 @@
 use native.Mathlib.Omega.{arith}
 use borrow.Author.Needs.{needs}
 use Prim.Native.Nat.{_+_, _*_, _-_, _<_}
-use Rattle.search.specs.Reach.{Searching, root-small, searching-start, counts, goal-asks, next-asks, near-asks, near-less, searching-near, scan-asks, scan-less, searching-scan, explored-goal, explored-all}
+use Rattle.search.specs.Reach.{Searching, root-small, searching-start, counts, goal-asks, next-asks, near-asks, near-less, searching-near}
+use Rattle.search.specs.Reach.{scan-asks, scan-less, searching-scan, explored-goal, explored-all}
 use Rattle.search.proofs.explore.Statement.{statement}
 use Rattle.search.proofs.explore.Tie as tie
 
 abbrev Inv-loop : tie.InvT-loop
-Inv-loop net m nodes tails heads pot stamp₀ via₀ dist₀ root goal order₀ key₀ t₀ seen₀ s₀ d₀ stamp via dist order key t seen s d = Searching net m nodes pot stamp via dist order key root goal t seen s d
+Inv-loop net m nodes tails heads pot stamp₀ via₀ dist₀ root goal order₀ key₀ t₀ seen₀ s₀ d₀ stamp via dist order key t seen s d =
+    Searching net m nodes pot stamp via dist order key root goal t seen s d
 
 abbrev μ-loop : tie.MeasureT-loop
 μ-loop net m nodes tails heads pot stamp₀ via₀ dist₀ root goal order₀ key₀ t₀ seen₀ s₀ d₀ stamp via dist order key t seen s d = 2 * nodes - (t + s)

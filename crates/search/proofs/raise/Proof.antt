@@ -14,48 +14,58 @@ Inv-loop pot₀ dist nodes d base v₀ pot v = (v ≤ nodes) × Shifted pot₀ p
 abbrev μ-loop : tie.MeasureT-loop
 μ-loop pot₀ dist nodes d base v₀ pot v = nodes - v
 
+-- the nodes are few
+small : (s : tie.Start Inv-loop μ-loop) → s .args .nodes ≤ 81
+small s = s .pre .few
+
 loop-holds : tie.Need-loop-holds Inv-loop μ-loop
 loop-holds c = (omega arith, record { long = c .before .before .pre .long; moved = below-none _; rest = λ k l. refl })
 
 mul-least : tie.Need-mul-least Inv-loop μ-loop
-mul-least c = omega (arith, c .before .before .before .before .pre .few)
+mul-least c = omega (arith, small (search needs))
 
 element-copy-out-least-2 : tie.Need-element-copy-out-least-2 Inv-loop μ-loop
-element-copy-out-least-2 c = omega (arith, c .before .before .before .before .pre .few)
+element-copy-out-least-2 c = omega (arith, small (search needs))
 
 mul-pot : tie.Need-mul-pot Inv-loop μ-loop
-mul-pot c = omega (arith, c .before .before .before .before .before .before .pre .few)
+mul-pot c = omega (arith, small (search needs))
 
 element-copy-out-pot : tie.Need-element-copy-out-pot Inv-loop μ-loop
-element-copy-out-pot c = omega (arith, c .before .before .before .before .before .before .pre .few)
+element-copy-out-pot c = omega (arith, small (search needs))
 
 add-pot : tie.Need-add-pot Inv-loop μ-loop
 add-pot c =
-    let i = c .before .before .before .before .loop in
-    let p = c .before .before .before .before .before .before .before .pre in
+    let at-loop : tie.At-loop Inv-loop μ-loop = search needs in
+    let entry : tie.Start Inv-loop μ-loop = search needs in
+    let i = at-loop .loop in
+    let p = entry .pre in
     omega (arith, i .inv .1 .rest (i .v) (omega arith), p .high (i .v) (omega arith), p .small)
 
 sub-pot : tie.Need-sub-pot Inv-loop μ-loop
 sub-pot c =
-    let i = c .before .before .before .before .loop in
-    omega (arith, i .inv .1 .rest (i .v) (omega arith), c .before .before .before .before .before .before .before .pre .low (i .v) (omega arith))
+    let at-loop : tie.At-loop Inv-loop μ-loop = search needs in
+    let entry : tie.Start Inv-loop μ-loop = search needs in
+    let i = at-loop .loop in
+    omega (arith, i .inv .1 .rest (i .v) (omega arith), entry .pre .low (i .v) (omega arith))
 
 mul-pot-2 : tie.Need-mul-pot-2 Inv-loop μ-loop
-mul-pot-2 c = omega (arith, c .before .before .before .before .before .before .before .pre .few)
+mul-pot-2 c = omega (arith, small (search needs))
 
 element-write-pot : tie.Need-element-write-pot Inv-loop μ-loop
-element-write-pot c = omega (arith, c .before .before .before .before .before .before .before .pre .few)
+element-write-pot c = omega (arith, small (search needs))
 
 add-v : tie.Need-add-v Inv-loop μ-loop
-add-v c = omega (arith, c .before .before .before .before .before .before .before .pre .few)
+add-v c = omega (arith, small (search needs))
 
 loop-less : tie.Need-loop-less Inv-loop μ-loop
 loop-less c = omega arith
 
 loop-again : tie.Need-loop-again Inv-loop μ-loop
 loop-again c =
-    let i = c .before .before .before .before .loop in
-    let p = c .before .before .before .before .before .before .before .pre in
+    let at-loop : tie.At-loop Inv-loop μ-loop = search needs in
+    let entry : tie.Start Inv-loop μ-loop = search needs in
+    let i = at-loop .loop in
+    let p = entry .pre in
     (omega arith, shifted-more _ (i .inv .1) (omega (arith, p .few)) (omega (arith, i .inv .1 .rest (i .v) (omega arith), p .low (i .v) (omega arith))))
 
 returns : tie.Need-returns Inv-loop μ-loop
