@@ -6,6 +6,7 @@ use lib.ListN.{length}
 use Rattle.network.specs.Stored.{at, Beyond}
 use Rattle.network.specs.Sum.{sum}
 use Rattle.flow.specs.Solve.{Sending, sending-start, sending-place, sending-ready, sending-more, sending-less, sending-next, sending-all}
+use borrow.Author.Needs.{needs}
 use Rattle.flow.proofs.serve.Statement.{statement}
 use Rattle.flow.proofs.serve.Tie as tie
 
@@ -32,26 +33,42 @@ element-copy-out-want : tie.Need-element-copy-out-want Inv-loop μ-loop
 element-copy-out-want c = sending-place (c .before .loop .inv .2) (c .loop-test .taken)
 
 add-augment : tie.Need-add-augment Inv-loop μ-loop
-add-augment c = omega (arith, c .before .before .before .before .before .before .loop-test .taken, c .before .before .before .before .before .before .before .before .before .pre .0 .network .few)
+add-augment c =
+    let in-loop : tie.In-loop Inv-loop μ-loop = search needs in
+    let entry : tie.Start Inv-loop μ-loop = search needs in
+    omega (arith, in-loop .loop-test .taken, entry .pre .0 .network .few)
 
 augment-requires : tie.Need-augment-requires Inv-loop μ-loop
 augment-requires c κs =
-    let p = c .before .before .before .before .before .before .before .before .before .before .pre in
-    let h = c .before .before .before .before .before .before .before .before .loop .inv in
-    (sending-ready (h .2) (p .1 .1 .1) (p .1 .0) (p .1 .1 .0) (c .before .before .before .before .before .before .before .loop-test .taken) (omega (arith, c .before .before .before .before .before .if1 .taken)), (h .0, h .1))
+    let wanted : tie.Then1 Inv-loop μ-loop = search needs in
+    let in-loop : tie.In-loop Inv-loop μ-loop = search needs in
+    let at-loop : tie.At-loop Inv-loop μ-loop = search needs in
+    let entry : tie.Start Inv-loop μ-loop = search needs in
+    let p = entry .pre in
+    let h = at-loop .loop .inv in
+    (sending-ready (h .2) (p .1 .1 .1) (p .1 .0) (p .1 .1 .0) (in-loop .loop-test .taken) (omega (arith, wanted .if1 .taken)), (h .0, h .1))
 
 take-requires : tie.Need-take-requires Inv-loop μ-loop
 take-requires c κs =
-    let h = c .before .before .before .before .before .before .before .before .before .before .before .before .loop .inv in
-    (h .2 .carries .demands .long, sending-place (h .2) (c .before .before .before .before .before .before .before .before .before .before .before .loop-test .taken), c .before .before .before .augment .ensures .0 .most)
+    let after-augment : tie.After-augment Inv-loop μ-loop = search needs in
+    let in-loop : tie.In-loop Inv-loop μ-loop = search needs in
+    let at-loop : tie.At-loop Inv-loop μ-loop = search needs in
+    let h = at-loop .loop .inv in
+    (h .2 .carries .demands .long, sending-place (h .2) (in-loop .loop-test .taken), after-augment .augment .ensures .0 .most)
 
 loop-less : tie.Need-loop-less Inv-loop μ-loop
-loop-less c = sending-less (c .before .before .before .before .before .before .before .before .before .before .before .before .before .loop .inv .2) (c .before .before .before .before .augment .ensures .0) (c .take .ensures) (c .before .before .before .before .before .before .before .before .before .before .before .before .loop-test .taken)
+loop-less c =
+    let after-augment : tie.After-augment Inv-loop μ-loop = search needs in
+    let in-loop : tie.In-loop Inv-loop μ-loop = search needs in
+    let at-loop : tie.At-loop Inv-loop μ-loop = search needs in
+    sending-less (at-loop .loop .inv .2) (after-augment .augment .ensures .0) (c .take .ensures) (in-loop .loop-test .taken)
 
 loop-again : tie.Need-loop-again Inv-loop μ-loop
 loop-again c =
-    let r = c .before .before .before .before .augment .ensures in
-    let h = c .before .before .before .before .before .before .before .before .before .before .before .before .before .loop .inv in
+    let after-augment : tie.After-augment Inv-loop μ-loop = search needs in
+    let at-loop : tie.At-loop Inv-loop μ-loop = search needs in
+    let r = after-augment .augment .ensures in
+    let h = at-loop .loop .inv in
     (r .1 .0 .0, r .1 .0 .1, sending-more (h .2) (r .0) (c .take .ensures), λ k l. r .1 .1 k l ∙ h .3 k l)
 
 add-i : tie.Need-add-i Inv-loop μ-loop

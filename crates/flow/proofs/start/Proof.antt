@@ -2,6 +2,7 @@
 use native.Mathlib.Omega.{arith}
 use Prim.Native.Nat.{_-_}
 use Rattle.flow.specs.Solve.{Started, started-none, started-fits, started-wanted, started-more}
+use borrow.Author.Needs.{needs}
 use Rattle.flow.proofs.start.Statement.{statement}
 use Rattle.flow.proofs.start.Tie as tie
 
@@ -21,9 +22,12 @@ loop-holds c =
 
 carry-requires : tie.Need-carry-requires Inv-loop μ-loop
 carry-requires c κs =
-    let a = c .before .before .before .before .loop in
-    let more = c .before .before .before .loop-test .taken in
-    (started-fits (a .inv) (a .e) more, started-wanted (a .inv) (a .e) more (c .before .before .before .before .before .before .pre .1 .0))
+    let in-loop : tie.In-loop Inv-loop μ-loop = search needs in
+    let at-loop : tie.At-loop Inv-loop μ-loop = search needs in
+    let entry : tie.Start Inv-loop μ-loop = search needs in
+    let a = at-loop .loop in
+    let more = in-loop .loop-test .taken in
+    (started-fits (a .inv) (a .e) more, started-wanted (a .inv) (a .e) more (entry .pre .1 .0))
 
 add-e : tie.Need-add-e Inv-loop μ-loop
 add-e c = omega arith
@@ -33,8 +37,10 @@ loop-less c = omega arith
 
 loop-again : tie.Need-loop-again Inv-loop μ-loop
 loop-again c =
-    let a = c .before .before .before .before .before .before .before .loop in
-    started-more (a .inv) (a .e) (c .before .before .before .before .before .before .loop-test .taken) (c .before .before .carry .ensures)
+    let in-loop : tie.In-loop Inv-loop μ-loop = search needs in
+    let at-loop : tie.At-loop Inv-loop μ-loop = search needs in
+    let a = at-loop .loop in
+    started-more (a .inv) (a .e) (in-loop .loop-test .taken) (c .before .before .carry .ensures)
 
 same-length : tie.Need-same-length Inv-loop μ-loop
 same-length c = c .before .loop .inv .long
