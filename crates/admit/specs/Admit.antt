@@ -108,7 +108,8 @@ module _ {net net' : List ℕ} {m nodes : ℕ} {pot tails heads : List ℕ} {a b
         admitted = λ e.
             record {
               flowless = flowless-more (A .growing .flowless) (P .edge) (omega (arith, P .extends .long, F .size)) (F .room) (F .tail) (F .head) (F .cost) d;
-              by-tail = index-link place a (A .growing .by-tail) (l .1) (omega (arith, F .room, N .some)) (omega (arith, F .tail, N .few)) (end-tail net' m ∙ P .edge .tail) (omega (arith, N .some)) T;
+              by-tail = index-link place a (A .growing .by-tail) (l .1) (omega (arith, F .room, N .some)) (omega (arith, F .tail, N .few))
+                  (end-tail net' m ∙ P .edge .tail) (omega (arith, N .some)) T;
               by-head = index-link place b (A .growing .by-head) (l .1) (omega (arith, F .room, N .some)) (omega (arith, F .head, N .few)) (P .edge .head) (omega (arith, N .some)) H;
             };
         refused = λ e. differ e;

@@ -68,8 +68,10 @@ put-is net e a b c l =
       past = λ i le. other i (λ q. omega arith) (λ q. omega arith) (λ q. omega arith) (λ q. omega arith);
       edge =
           record {
-            tail = off three (4 * e + 3) (4 * e) 0 (λ q. omega arith) ∙ off two (4 * e + 2) (4 * e) c (λ q. omega arith) ∙ off one (4 * e + 1) (4 * e) b (λ q. omega arith) ∙ getD-set-same net (4 * e) a 0 (omega arith);
-            head = off three (4 * e + 3) (4 * e + 1) 0 (λ q. omega arith) ∙ off two (4 * e + 2) (4 * e + 1) c (λ q. omega arith) ∙ getD-set-same one (4 * e + 1) b 0 (omega (arith, length-set net (4 * e) a));
+            tail = off three (4 * e + 3) (4 * e) 0 (λ q. omega arith)
+                ∙ off two (4 * e + 2) (4 * e) c (λ q. omega arith) ∙ off one (4 * e + 1) (4 * e) b (λ q. omega arith) ∙ getD-set-same net (4 * e) a 0 (omega arith);
+            head = off three (4 * e + 3) (4 * e + 1) 0 (λ q. omega arith)
+                ∙ off two (4 * e + 2) (4 * e + 1) c (λ q. omega arith) ∙ getD-set-same one (4 * e + 1) b 0 (omega (arith, length-set net (4 * e) a));
             cost = off three (4 * e + 3) (4 * e + 2) 0 (λ q. omega arith) ∙ getD-set-same two (4 * e + 2) c 0 (omega (arith, length-set net (4 * e) a, length-set one (4 * e + 1) b));
             flow = getD-set-same three (4 * e + 3) 0 0 (omega (arith, length-set net (4 * e) a, length-set one (4 * e + 1) b, length-set two (4 * e + 2) c));
           };

@@ -36,7 +36,8 @@ module _ {net : List ℕ} {m nodes : ℕ} {pot stamp dist order : List ℕ} {t :
   scans-still = scans-on sc (A .onward .fell)
 
   -- Q is covered by P and what is relaxed since
-  pub swept-more : {stamp₂ via₂ dist₂ order₂ key₂ : List ℕ} {t₂ : ℕ} {Q : ℕ → Type 0} → Onward net m nodes pot stamp₁ dist₁ order₁ t₁ stamp₂ via₂ dist₂ order₂ key₂ root t₂ s d
+  pub swept-more : {stamp₂ via₂ dist₂ order₂ key₂ : List ℕ} {t₂ : ℕ} {Q : ℕ → Type 0}
+      → Onward net m nodes pot stamp₁ dist₁ order₁ t₁ stamp₂ via₂ dist₂ order₂ key₂ root t₂ s d
       → ((e : ℕ) → e < m → Q e → (P e → Relaxed net pot dist₂ w e) → Relaxed net pot dist₂ w e)
       → Swept net m nodes pot stamp dist order t stamp₂ via₂ dist₂ order₂ key₂ root t₂ s d w Q
   swept-more B cover =
@@ -271,7 +272,8 @@ pub next-scans : {net : List ℕ} {m nodes : ℕ} {pot stamp via dist order key 
 next-scans S lt = let q = S .queue _ lt in record { inside = q .0; stamped = q .1 }
 
 -- the three sweeps of a scan
-pub scanned : {net : List ℕ} {m nodes : ℕ} {pot stamp via dist order key stamp₁ via₁ dist₁ order₁ key₁ stamp₂ via₂ dist₂ order₂ key₂ stamp₃ via₃ dist₃ order₃ key₃ : List ℕ}
+pub scanned : {net : List ℕ} {m nodes : ℕ} {pot stamp via dist order key stamp₁ via₁ dist₁ order₁ key₁ : List ℕ}
+    {stamp₂ via₂ dist₂ order₂ key₂ stamp₃ via₃ dist₃ order₃ key₃ : List ℕ}
     {root t t₁ t₂ t₃ s d : ℕ} → Search net m nodes pot stamp via dist order key root t s d → s < t
     → Swept net m nodes pot stamp dist order t stamp₁ via₁ dist₁ order₁ key₁ root t₁ s d (at order s) (Below (2 * nodes - 2))
     → Swept net m nodes pot stamp₁ dist₁ order₁ t₁ stamp₂ via₂ dist₂ order₂ key₂ root t₂ s d (at order s) (Listed net (2 * nodes - 2) 1 (at order s))

@@ -25,7 +25,9 @@ fn scan_origin(
 ) -> usize
     requires { ⌜ Search (now net) m nodes (now pot) (now stamp) (now via) (now dist) (now order) (now key) root t s d ⌝ }
     requires { ⌜ Scans nodes (now stamp) s 0 ⌝ }
-    ensures { λ r. ⌜ Swept (now (net .entry)) m nodes (now (pot .entry)) (now (stamp .entry)) (now (dist .entry)) (now (order .entry)) t (now (stamp .exit)) (now (via .exit)) (now (dist .exit)) (now (order .exit)) (now (key .exit)) root r s d 0 (Below (2 * nodes - 2)) ⌝ }
+    ensures { λ r.
+        ⌜ Swept (now (net .entry)) m nodes (now (pot .entry)) (now (stamp .entry)) (now (dist .entry)) (now (order .entry)) t
+        (now (stamp .exit)) (now (via .exit)) (now (dist .exit)) (now (order .exit)) (now (key .exit)) root r s d 0 (Below (2 * nodes - 2)) ⌝ }
 {
     let mut r = t;
     let mut v = 1;
@@ -56,7 +58,9 @@ fn scan_box(
 ) -> usize
     requires { ⌜ Search (now net) m nodes (now pot) (now stamp) (now via) (now dist) (now order) (now key) root t s d ⌝ }
     requires { ⌜ Scans nodes (now stamp) s w ⌝ }
-    ensures { λ r. ⌜ Swept (now (net .entry)) m nodes (now (pot .entry)) (now (stamp .entry)) (now (dist .entry)) (now (order .entry)) t (now (stamp .exit)) (now (via .exit)) (now (dist .exit)) (now (order .exit)) (now (key .exit)) root r s d w (Below (2 * nodes - 2)) ⌝ }
+    ensures { λ r.
+        ⌜ Swept (now (net .entry)) m nodes (now (pot .entry)) (now (stamp .entry)) (now (dist .entry)) (now (order .entry)) t
+        (now (stamp .exit)) (now (via .exit)) (now (dist .exit)) (now (order .exit)) (now (key .exit)) root r s d w (Below (2 * nodes - 2)) ⌝ }
 {
     if w == 0 {
         return scan_origin(
@@ -100,7 +104,9 @@ fn scan_heads(
     requires { ⌜ Search (now net) m nodes (now pot) (now stamp) (now via) (now dist) (now order) (now key) root t s d ⌝ }
     requires { ⌜ Scans nodes (now stamp) s w ⌝ }
     requires { ⌜ Index (now net) m (2 * nodes - 2) 1 (now heads) ⌝ }
-    ensures { λ r. ⌜ Swept (now (net .entry)) m nodes (now (pot .entry)) (now (stamp .entry)) (now (dist .entry)) (now (order .entry)) t (now (stamp .exit)) (now (via .exit)) (now (dist .exit)) (now (order .exit)) (now (key .exit)) root r s d w (Listed (now (net .entry)) (2 * nodes - 2) 1 w) ⌝ }
+    ensures { λ r.
+        ⌜ Swept (now (net .entry)) m nodes (now (pot .entry)) (now (stamp .entry)) (now (dist .entry)) (now (order .entry)) t
+        (now (stamp .exit)) (now (via .exit)) (now (dist .exit)) (now (order .exit)) (now (key .exit)) root r s d w (Listed (now (net .entry)) (2 * nodes - 2) 1 w) ⌝ }
 {
     let base = 2 * nodes - 2;
     let mut r = t;
@@ -134,7 +140,9 @@ fn scan_tails(
     requires { ⌜ Search (now net) m nodes (now pot) (now stamp) (now via) (now dist) (now order) (now key) root t s d ⌝ }
     requires { ⌜ Scans nodes (now stamp) s w ⌝ }
     requires { ⌜ Index (now net) m (2 * nodes - 2) 0 (now tails) ⌝ }
-    ensures { λ r. ⌜ Swept (now (net .entry)) m nodes (now (pot .entry)) (now (stamp .entry)) (now (dist .entry)) (now (order .entry)) t (now (stamp .exit)) (now (via .exit)) (now (dist .exit)) (now (order .exit)) (now (key .exit)) root r s d w (Listed (now (net .entry)) (2 * nodes - 2) 0 w) ⌝ }
+    ensures { λ r.
+        ⌜ Swept (now (net .entry)) m nodes (now (pot .entry)) (now (stamp .entry)) (now (dist .entry)) (now (order .entry)) t
+        (now (stamp .exit)) (now (via .exit)) (now (dist .exit)) (now (order .exit)) (now (key .exit)) root r s d w (Listed (now (net .entry)) (2 * nodes - 2) 0 w) ⌝ }
 {
     let base = 2 * nodes - 2;
     let mut r = t;
@@ -169,7 +177,9 @@ pub fn scan(
     requires { ⌜ s < t ⌝ }
     requires { ⌜ Index (now net) m (2 * nodes - 2) 0 (now tails) ⌝ }
     requires { ⌜ Index (now net) m (2 * nodes - 2) 1 (now heads) ⌝ }
-    ensures { λ r. ⌜ Scanned (now (net .entry)) m nodes (now (pot .entry)) (now (order .entry)) t (now (stamp .exit)) (now (via .exit)) (now (dist .exit)) (now (order .exit)) (now (key .exit)) root r s d ⌝ }
+    ensures { λ r.
+        ⌜ Scanned (now (net .entry)) m nodes (now (pot .entry)) (now (order .entry)) t
+        (now (stamp .exit)) (now (via .exit)) (now (dist .exit)) (now (order .exit)) (now (key .exit)) root r s d ⌝ }
 {
     let w = order[s];
     let a = scan_box(

@@ -353,7 +353,12 @@ search-start {net} {m} {nodes} {pot} {via} {root} stamp dist order key N P ls lv
       inside = lr;
       sizes = (simp length-set ls, lv, simp length-set ld, lo);
       rooted = (first, zero-dist);
-      count = omega (arith, zeros-all stamp nodes (λ k l. clear k (omega (arith, N .few))), zeros-set stamp nodes root 1 lr (omega (arith, N .few)) (clear root (omega (arith, N .few))) (omega arith));
+      count = omega (
+        arith,
+        zeros-all stamp nodes (λ k l. clear k (omega (arith, N .few))),
+        zeros-set stamp nodes root 1 lr (omega (arith, N .few))
+            (clear root (omega (arith, N .few))) (omega arith),
+      );
       scanned = omega arith;
       queue = λ k lk. only k lk;
       place = λ v l p. by-cases (ℕ-discrete v root)

@@ -30,7 +30,8 @@ Same stamp via dist order key stamp' via' dist' order' key' t r = (stamp' ≡ st
 pub record Offered (stamp via dist order key stamp' via' dist' order' key' : List ℕ) (v x e d t r : ℕ) : Type 0 where
   pub kept : at dist v ≤ x → Same stamp via dist order key stamp' via' dist' order' key' t r
   pub lower : x < at dist v → d < x → (stamp' ≡ stamp) × (via' ≡ set via v e) × (dist' ≡ set dist v x) × (order' ≡ order) × (key' ≡ set key v x) × (r ≡ t)
-  pub join : x < at dist v → x ≤ d → (stamp' ≡ set stamp v (t + 1)) × (via' ≡ set via v e) × (dist' ≡ set dist v x) × (order' ≡ set order t v) × (key' ≡ set (set key v x) v 8000000) × (r ≡ t + 1)
+  pub join : x < at dist v → x ≤ d → (stamp' ≡ set stamp v (t + 1)) × (via' ≡ set via v e) × (dist' ≡ set dist v x)
+      × (order' ≡ set order t v) × (key' ≡ set (set key v x) v 8000000) × (r ≡ t + 1)
 
 -- the head of edge e is offered the distance d where it has flow
 pub record Backed (net stamp via dist order key stamp' via' dist' order' key' : List ℕ) (e d t r : ℕ) : Type 0 where

@@ -21,7 +21,9 @@ pub fn join(
     t: usize,
 )
     requires { ⌜ (v < 81) × (t < 81) ⌝ }
-    ensures { λ _. ⌜ (now (stamp .exit) ≡ set (now (stamp .entry)) v (t + 1)) × (now (order .exit) ≡ set (now (order .entry)) t v) × (now (key .exit) ≡ set (now (key .entry)) v 8000000) ⌝ }
+    ensures { λ _.
+        ⌜ (now (stamp .exit) ≡ set (now (stamp .entry)) v (t + 1))
+        × (now (order .exit) ≡ set (now (order .entry)) t v) × (now (key .exit) ≡ set (now (key .entry)) v 8000000) ⌝ }
 {
     stamp[v] = t + 1;
     order[t] = v;
@@ -42,7 +44,9 @@ fn offer(
     t: usize,
 ) -> usize
     requires { ⌜ (v < 81) × (x < at (now dist) v → t < 81) ⌝ }
-    ensures { λ r. ⌜ Offered (now (stamp .entry)) (now (via .entry)) (now (dist .entry)) (now (order .entry)) (now (key .entry)) (now (stamp .exit)) (now (via .exit)) (now (dist .exit)) (now (order .exit)) (now (key .exit)) v x e d t r ⌝ }
+    ensures { λ r.
+        ⌜ Offered (now (stamp .entry)) (now (via .entry)) (now (dist .entry)) (now (order .entry)) (now (key .entry))
+        (now (stamp .exit)) (now (via .exit)) (now (dist .exit)) (now (order .exit)) (now (key .exit)) v x e d t r ⌝ }
 {
     if x < dist[v] {
         dist[v] = x;
@@ -80,7 +84,10 @@ pub fn visit_head(
 ) -> usize
     requires { ⌜ Step (now net) (now pot) e (tailOf (now net) e) w d ⌝ }
     requires { ⌜ (d < at (now dist) (tailOf (now net) e) → t < 81) ⌝ }
-    ensures { λ r. ⌜ Offered (now (stamp .entry)) (now (via .entry)) (now (dist .entry)) (now (order .entry)) (now (key .entry)) (now (stamp .exit)) (now (via .exit)) (now (dist .exit)) (now (order .exit)) (now (key .exit)) (tailOf (now (net .entry)) e) (stepTo (now (net .entry)) (now (pot .entry)) e (tailOf (now (net .entry)) e) w d) e d t r ⌝ }
+    ensures { λ r.
+        ⌜ Offered (now (stamp .entry)) (now (via .entry)) (now (dist .entry)) (now (order .entry)) (now (key .entry))
+        (now (stamp .exit)) (now (via .exit)) (now (dist .exit)) (now (order .exit)) (now (key .exit))
+        (tailOf (now (net .entry)) e) (stepTo (now (net .entry)) (now (pot .entry)) e (tailOf (now (net .entry)) e) w d) e d t r ⌝ }
 {
     let v = net[4 * e] as usize;
     let x = over(net, pot, e, v, w, d);
@@ -100,7 +107,9 @@ pub fn visit_tail(
     t: usize,
 ) -> usize
     requires { ⌜ (4 * e + 3 < length (now net)) × (headOf (now net) e < 81) × (d < at (now dist) (headOf (now net) e) → t < 81) ⌝ }
-    ensures { λ r. ⌜ Backed (now (net .entry)) (now (stamp .entry)) (now (via .entry)) (now (dist .entry)) (now (order .entry)) (now (key .entry)) (now (stamp .exit)) (now (via .exit)) (now (dist .exit)) (now (order .exit)) (now (key .exit)) e d t r ⌝ }
+    ensures { λ r.
+        ⌜ Backed (now (net .entry)) (now (stamp .entry)) (now (via .entry)) (now (dist .entry)) (now (order .entry)) (now (key .entry))
+        (now (stamp .exit)) (now (via .exit)) (now (dist .exit)) (now (order .exit)) (now (key .exit)) e d t r ⌝ }
 {
     let p = 4 * e;
     if 0 < net[p + 3] {
@@ -138,7 +147,9 @@ pub fn visit_box(
 ) -> usize
     requires { ⌜ Step (now net) (now pot) i v w d ⌝ }
     requires { ⌜ (4 * o + 3 < length (now net)) × (d < at (now dist) v → t < 81) ⌝ }
-    ensures { λ r. ⌜ Boxed (now (net .entry)) (now (pot .entry)) (now (stamp .entry)) (now (via .entry)) (now (dist .entry)) (now (order .entry)) (now (key .entry)) (now (stamp .exit)) (now (via .exit)) (now (dist .exit)) (now (order .exit)) (now (key .exit)) w v i o d t r ⌝ }
+    ensures { λ r.
+        ⌜ Boxed (now (net .entry)) (now (pot .entry)) (now (stamp .entry)) (now (via .entry)) (now (dist .entry)) (now (order .entry)) (now (key .entry))
+        (now (stamp .exit)) (now (via .exit)) (now (dist .exit)) (now (order .exit)) (now (key .exit)) w v i o d t r ⌝ }
 {
     if d < dist[v] {
         if 0 < net[4 * o + 3] {
