@@ -32,7 +32,8 @@ module _ (r : Record) (ok : Kept r) (event opens closes : ℕ) where
   pub cause-told : {fit committed leaves : Bool} {first last k : ℕ}
       → fits (content (r .ticket)) (windowList (r .ticket .events) (r .opens) (r .closes)) ≡ fit
       → committed ≡ eqb (at (0 ∷ r .flags) event) 1 → first ≡ at (0 ∷ r .opens) event → last ≡ at (0 ∷ r .closes) event
-      → leaves ≡ (ltb closes opens || (ltb opens first || ltb last closes)) → k ≡ firstCause fit (r .ticket .events) event committed leaves → k ≡ cause (stateOf r) (asking event opens closes)
+      → leaves ≡ (ltb closes opens || (ltb opens first || ltb last closes))
+      → k ≡ firstCause fit (r .ticket .events) event committed leaves → k ≡ cause (stateOf r) (asking event opens closes)
   unfolding windowList
   cause-told f p x y o q =
       let l = o ∙ (λ i. ltb closes opens || (ltb opens (x i) || ltb (y i) closes)) in

@@ -7,25 +7,39 @@ use Rattle.causes.proofs.cause.Statement.{statement}
 use Rattle.causes.proofs.cause.Tie as tie
 
 fit-requires : tie.Need-fit-requires
-fit-requires c κs = lies-asked (c .before .before .before .before .before .before .pre)
+fit-requires c κs =
+    let entry : tie.Start = search needs in
+    lies-asked (entry .pre)
 
 cast-n : tie.Need-cast-n
-cast-n c = omega (arith, kept-few (c .before .before .before .before .before .before .before .before .args .r) (c .before .before .before .before .before .before .before .before .pre))
+cast-n c =
+    let entry : tie.Start = search needs in
+    omega (arith, kept-few (entry .args .r) (entry .pre))
 
 flag-at-requires : tie.Need-flag-at-requires
-flag-at-requires c κs = c .before .before .before .before .before .before .before .before .before .pre .flags-past .long
+flag-at-requires c κs =
+    let entry : tie.Start = search needs in
+    entry .pre .flags-past .long
 
 number-at-requires : tie.Need-number-at-requires
-number-at-requires c κs = c .before .before .before .before .before .before .before .before .before .before .before .pre .opens-past .long
+number-at-requires c κs =
+    let entry : tie.Start = search needs in
+    entry .pre .opens-past .long
 
 number-at-requires-2 : tie.Need-number-at-requires-2
-number-at-requires-2 c κs = c .before .before .before .before .before .before .before .before .before .before .before .before .before .pre .closes-past .long
+number-at-requires-2 c κs =
+    let entry : tie.Start = search needs in
+    entry .pre .closes-past .long
 
 returns : tie.Need-returns
 returns c =
-    let s = c .before .before .before .before .before .before .before .before .before .before .before .before .before .before .before .before in
+    let after-number-at : tie.After-number-at = search needs in
+    let after-flag-at : tie.After-flag-at = search needs in
+    let after-fit : tie.After-fit = search needs in
+    let s : tie.Start = search needs in
     cause-told (s .args .r) (s .pre) (s .args .event) (s .args .opens) (s .args .closes)
-    (c .before .before .before .before .before .before .before .before .before .fit .ensures) (c .before .before .before .before .before .before .flag-at .ensures) (c .before .before .before .before .number-at .ensures) (c .before .before .number-at2 .ensures) (c .before .outside .ensures) (c .first-cause .ensures)
+    (after-fit .fit .ensures) (after-flag-at .flag-at .ensures) (after-number-at .number-at .ensures) (c .before .before .number-at2 .ensures)
+    (c .before .outside .ensures) (c .first-cause .ensures)
 
 pub cause-spec : {M : Type 1} → statement M
 cause-spec =
