@@ -20,31 +20,47 @@ loop-holds c = (omega arith, c .before .before .pre .1)
 
 admit-requires : tie.Need-admit-requires Inv-loop μ-loop
 admit-requires c κs =
+    let after-edge : tie.After-edge Inv-loop μ-loop = search needs in
+    let in-loop : tie.In-loop Inv-loop μ-loop = search needs in
+    let at-loop : tie.At-loop Inv-loop μ-loop = search needs in
+    let entry : tie.Start Inv-loop μ-loop = search needs in
     ends-fit
-    (c .before .before .before .before .before .before .before .before .before .args .m)
-    (c .before .before .before .before .before .before .before .before .before .pre .0)
-    (c .before .before .before .before .before .loop-test .taken)
-    (c .before .before .before .before .before .before .loop .inv .1)
-    (c .before .before .before .before .edge .ensures)
+    (entry .args .m)
+    (entry .pre .0)
+    (in-loop .loop-test .taken)
+    (at-loop .loop .inv .1)
+    (after-edge .edge .ensures)
 
 same-length : tie.Need-same-length Inv-loop μ-loop
-same-length c = c .before .before .before .admit .ensures .put .extends .long ∙ c .before .before .before .before .before .before .before .before .before .before .loop .inv .1 .size ∙ sym (c .before .before .before .before .before .before .before .before .before .before .before .before .before .pre .1 .size)
+same-length c =
+    let after-admit : tie.After-admit Inv-loop μ-loop = search needs in
+    let at-loop : tie.At-loop Inv-loop μ-loop = search needs in
+    let entry : tie.Start Inv-loop μ-loop = search needs in
+    after-admit .admit .ensures .put .extends .long ∙ at-loop .loop .inv .1 .size ∙ sym (entry .pre .1 .size)
 
 returns : tie.Need-returns Inv-loop μ-loop
 returns c = λ (e : false ≡ true). absurd (let x : _≡_ {A = ℕ} 0 1 = cc in omega arith)
 
 loop-again : tie.Need-loop-again Inv-loop μ-loop
-loop-again c = (
-  omega arith,
-  built-more (c .before .before .before .before .before .before .before .before .before .before .loop .inv .1) (rw (not-false (c .before .before .before .admit .result) (c .if1 .left)) at (c .before .before .before .admit .ensures)) (c .before .before .before .before .before .before .before .before .edge .ensures .order),
-)
+loop-again c =
+    let after-admit : tie.After-admit Inv-loop μ-loop = search needs in
+    let after-edge : tie.After-edge Inv-loop μ-loop = search needs in
+    let at-loop : tie.At-loop Inv-loop μ-loop = search needs in (
+      omega arith,
+      built-more (at-loop .loop .inv .1) (rw (not-false (after-admit .admit .result) (c .if1 .left)) at (after-admit .admit .ensures))
+          (after-edge .edge .ensures .order),
+    )
 
 same-length-2 : tie.Need-same-length-2 Inv-loop μ-loop
-same-length-2 c = c .before .loop .inv .1 .size ∙ sym (c .before .before .before .before .pre .1 .size)
+same-length-2 c =
+    let entry : tie.Start Inv-loop μ-loop = search needs in
+    c .before .loop .inv .1 .size ∙ sym (entry .pre .1 .size)
 
 returns-2 : tie.Need-returns-2 Inv-loop μ-loop
-returns-2 c = λ _.
-    let all : c .before .loop .k ≡ c .before .before .before .before .args .n + c .before .before .before .before .args .m = omega arith in
+returns-2 c =
+    let entry : tie.Start Inv-loop μ-loop = search needs in
+    λ _.
+    let all : c .before .loop .k ≡ entry .args .n + entry .args .m = omega arith in
     rw all at (c .before .loop .inv .1)
 
 pub admit-all-spec : {M : Type 1} → statement M

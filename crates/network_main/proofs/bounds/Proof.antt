@@ -18,7 +18,8 @@ loop-holds c = let p = c .before .pre in (omega arith, omega arith, bounded-none
 
 loop-again : tie.Need-loop-again Inv-loop μ-loop
 loop-again c =
-    let i = c .before .before .before .before .before .loop in
+    let at-loop : tie.At-loop Inv-loop μ-loop = search needs in
+    let i = at-loop .loop in
     (omega arith, omega arith, bounded-more _ _ (i .inv .2) (omega arith) (omega arith) (omega (arith, c .least2 .ensures)) (omega (arith, c .before .before .least .ensures)))
 
 returns : tie.Need-returns Inv-loop μ-loop

@@ -8,8 +8,9 @@ use Rattle.network_main.proofs.outcome.Tie as tie
 
 solved-requires : tie.Need-solved-requires
 solved-requires c κs =
-    let start = c .before .before .before .before .before .before .before .before .before .before .before .before .before .before in
-    let B = c .before .before .before .before .admit-all .ensures (not-false (c .before .before .before .before .admit-all .result) (c .before .before .if1 .left)) in
+    let after-admit-all : tie.After-admit-all = search needs in
+    let start : tie.Start = search needs in
+    let B = after-admit-all .admit-all .ensures (not-false (after-admit-all .admit-all .result) (c .before .before .if1 .left)) in
     (start .pre, (built-flowless (start .args .m) B refl, built-spans (start .args .m) B refl))
 
 pub outcome-spec : {M : Type 1} → statement M

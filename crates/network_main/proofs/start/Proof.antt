@@ -8,15 +8,19 @@ use Rattle.network_main.proofs.start.Tie as tie
 
 boxes-requires : tie.Need-boxes-requires
 boxes-requires c κs =
-    let p = c .before .before .before .before .before .before .before .before .pre in
-    let D = c .before .before .before .bounds .ensures in
+    let after-bounds : tie.After-bounds = search needs in
+    let entry : tie.Start = search needs in
+    let p = entry .pre in
+    let D = after-bounds .bounds .ensures in
     ((omega (arith, p .0), omega (arith, p .0, p .1)), λ v p l. let f = D .fits v l p in (omega arith, f .1))
 
 returns : tie.Need-returns
 returns c =
-    let p = c .before .before .before .before .before .before .before .before .before .before .before .pre in
+    let after-bounds : tie.After-bounds = search needs in
+    let entry : tie.Start = search needs in
+    let p = entry .pre in
     let B = c .before .before .boxes .ensures in
-    built-start (p .0) (B .0 ∙ p .1) (B .1 .0) (c .before .before .before .before .before .before .bounds .ensures)
+    built-start (p .0) (B .0 ∙ p .1) (B .1 .0) (after-bounds .bounds .ensures)
 
 pub start-spec : {M : Type 1} → statement M
 start-spec =
