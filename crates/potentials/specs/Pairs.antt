@@ -167,7 +167,8 @@ spreads-pairs N S = record {
 }
 
 -- windows in arrays, laid out as a potential
-pub pairs-potential : {n : ℕ} {pot : List ℕ} (opens closes : List ℕ) → Pairs n (at opens) (at closes) pot n → (v : ℕ) → v < 2 * n + 1 → at pot v ≡ potentialOf n (windowList n opens closes) v
+pub pairs-potential : {n : ℕ} {pot : List ℕ} (opens closes : List ℕ) → Pairs n (at opens) (at closes) pot n → (v : ℕ) → v < 2 * n + 1
+    → at pot v ≡ potentialOf n (windowList n opens closes) v
 pairs-potential {n} opens closes P zero l = P .nodes .origin ∙ sym (potential-open n (windowList n opens closes) 0 (omega arith))
 pairs-potential {n} {pot} opens closes P (suc u) l = by-nodes (λ v. at pot v ≡ potentialOf n (windowList n opens closes) v) n
     (λ i li. P .first i li ∙ sym (potential-open n (windowList n opens closes) (suc i) li ∙ ap (λ (w : Window). w .opens) (window-at n opens closes i li)))
