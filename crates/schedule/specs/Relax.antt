@@ -52,7 +52,8 @@ rounds-start L l h = record {
 
 module _ {t : Ticket} {kept : ℕ} {times : List ℕ} {last end j : ℕ} (R : Rounds t kept times last end j) where
   -- the rule held
-  pub rounds-held : {times' : List ℕ} {r : ℕ} → j < end → Raised times times' (at (t .from) j) (at (t .to) j) (getD (t .bound) j (pos 0)) r → r ≡ 0 → Rounds t kept times' last end (j + 1)
+  pub rounds-held : {times' : List ℕ} {r : ℕ} → j < end → Raised times times' (at (t .from) j) (at (t .to) j) (getD (t .bound) j (pos 0)) r
+      → r ≡ 0 → Rounds t kept times' last end (j + 1)
   rounds-held {times'} {r} l S z =
       let e = S .same z in
       subst (λ xs. Rounds t kept xs last end (j + 1)) (sym e) (record {
@@ -62,7 +63,8 @@ module _ {t : Ticket} {kept : ℕ} {times : List ℕ} {last end j : ℕ} (R : Ro
         few = R .few;
         passed = λ i lo hi.
             ⊎-elim (λ (p : i < j). R .passed i lo p)
-            (λ (p : j ≤ i). let q : i ≡ j = omega arith in rw (q, close-self (at (t .to) j)) (subst (λ xs. at xs (at (t .to) j) + 1000000 ≤ at xs (at (t .from) j) + biased (getD (t .bound) j (pos 0))) e (S .held z)))
+            (λ (p : j ≤ i). let q : i ≡ j = omega arith in rw (q, close-self (at (t .to) j))
+            (subst (λ xs. at xs (at (t .to) j) + 1000000 ≤ at xs (at (t .from) j) + biased (getD (t .bound) j (pos 0))) e (S .held z)))
             (below-or-not i j);
         calm = R .calm;
         stirred = R .stirred;

@@ -8,11 +8,13 @@ use Rattle.schedule.proofs.admit_rule.Statement.{statement}
 use Rattle.schedule.proofs.admit_rule.Tie as tie
 
 cost-requires : tie.Need-cost-requires
-cost-requires c κs = rw (toZ-ofZ w32 (c .before .before .before .before .before .before .before .args .bound) (c .before .before .before .before .before .before .before .fits .bound)) (c .before .before .before .before .before .before .before .pre .1 .0 .high, c .before .before .before .before .before .before .before .pre .1 .0 .deep)
+cost-requires c κs =
+    let entry : tie.Start = search needs in
+    rw (toZ-ofZ w32 (entry .args .bound) (entry .fits .bound)) (entry .pre .1 .0 .high, entry .pre .1 .0 .deep)
 
 admit-requires : tie.Need-admit-requires
 admit-requires c κs =
-    let s = c .before .before .before .before .before .before .before .before in
+    let s : tie.Start = search needs in
     let small = s .pre .1 .0 in (
       s .pre .0,
       record {
@@ -28,7 +30,13 @@ same-length : tie.Need-same-length
 same-length c = c .before .before .admit .ensures .put .extends .long
 
 returns : tie.Need-returns
-returns c = rw (c .before .before .before .before .before .wide .ensures, c .before .before .before .before .wide2 .ensures, c .before .before .before .cost .ensures, toZ-ofZ w32 (c .before .before .before .before .before .before .before .before .before .before .before .args .bound) (c .before .before .before .before .before .before .before .before .before .before .before .fits .bound)) at (c .before .before .admit .ensures)
+returns c =
+    let after-cost : tie.After-cost = search needs in
+    let after-wide2 : tie.After-wide2 = search needs in
+    let after-wide : tie.After-wide = search needs in
+    let entry : tie.Start = search needs in
+    rw (after-wide .wide .ensures, after-wide2 .wide2 .ensures, after-cost .cost .ensures, toZ-ofZ w32 (entry .args .bound) (entry .fits .bound))
+    at (c .before .before .admit .ensures)
 
 pub admit-rule-spec : {M : Type 1} → statement M
 admit-rule-spec =

@@ -20,29 +20,40 @@ loop-holds c = (omega arith, c .before .pre .1 .1)
 
 admit-rule-requires : tie.Need-admit-rule-requires Inv-loop μ-loop
 admit-rule-requires c κs =
-    let G = c .before .before .before .before .before .before .before .before .before .before .pre .0 in
-    let j = c .before .before .before .before .before .before .before .before .loop .j in
-    let lj : j < c .before .before .before .before .before .before .before .before .before .before .args .t2 .rules = omega arith in
-    let T = c .before .before .before .before .before .before .before .before .loop .inv .1 in
+    let at-loop : tie.At-loop Inv-loop μ-loop = search needs in
+    let entry : tie.Start Inv-loop μ-loop = search needs in
+    let G = entry .pre .0 in
+    let j = at-loop .loop .j in
+    let lj : j < entry .args .t2 .rules = omega arith in
+    let T = at-loop .loop .inv .1 in
     (T .growing, (rw (given-bound G j lj) (given-small G j lj), (G .few, omega (arith, G .most), omega (arith, T .long))))
 
 loop-again : tie.Need-loop-again Inv-loop μ-loop
 loop-again c =
-    let G = c .before .before .before .before .before .before .before .before .before .before .before .before .before .before .pre .0 in
-    let j = c .before .before .before .before .before .before .before .before .before .before .before .before .loop .j in
-    let lj : j < c .before .before .before .before .before .before .before .before .before .before .before .before .before .before .args .t2 .rules = omega arith in
-    (omega arith, tried-more (c .before .before .before .before .before .before .before .before .before .before .before .before .loop .inv .1) (rw (given-bound G j lj) at (c .before .before .before .admit-rule .ensures)) (c .if1 .taken))
+    let after-admit-rule : tie.After-admit-rule Inv-loop μ-loop = search needs in
+    let turn : tie.In-loop Inv-loop μ-loop = search needs in
+    let entry : tie.Start Inv-loop μ-loop = search needs in
+    let G = entry .pre .0 in
+    let j = turn .before .loop .j in
+    let lj : j < entry .args .t2 .rules = omega (arith, turn .loop-test .taken) in
+    (omega arith, tried-more (turn .before .loop .inv .1) (rw (given-bound G j lj) at (after-admit-rule .admit-rule .ensures)) (c .if1 .taken))
 
 same-length : tie.Need-same-length Inv-loop μ-loop
-same-length c = c .before .before .before .admit-rule .ensures .put .extends .long ∙ c .before .before .before .before .before .before .before .before .before .before .before .before .loop .inv .1 .long
+same-length c =
+    let after-admit-rule : tie.After-admit-rule Inv-loop μ-loop = search needs in
+    let at-loop : tie.At-loop Inv-loop μ-loop = search needs in
+    after-admit-rule .admit-rule .ensures .put .extends .long ∙ at-loop .loop .inv .1 .long
 
 returns : tie.Need-returns Inv-loop μ-loop
 returns c =
-    let G = c .before .before .before .before .before .before .before .before .before .before .before .before .before .before .pre .0 in
-    let j = c .before .before .before .before .before .before .before .before .before .before .before .before .loop .j in
-    let lj : j < c .before .before .before .before .before .before .before .before .before .before .before .before .before .before .args .t2 .rules = omega arith in (
-      decided-no (tried-none (c .before .before .before .before .before .before .before .before .before .before .before .before .loop .inv .1) (rw (given-bound G j lj) at (c .before .before .before .admit-rule .ensures)) lj (c .if1 .left)),
-      c .before .before .before .admit-rule .ensures .put .extends .long ∙ c .before .before .before .before .before .before .before .before .before .before .before .before .loop .inv .1 .long,
+    let after-admit-rule : tie.After-admit-rule Inv-loop μ-loop = search needs in
+    let turn : tie.In-loop Inv-loop μ-loop = search needs in
+    let entry : tie.Start Inv-loop μ-loop = search needs in
+    let G = entry .pre .0 in
+    let j = turn .before .loop .j in
+    let lj : j < entry .args .t2 .rules = omega (arith, turn .loop-test .taken) in (
+      decided-no (tried-none (turn .before .loop .inv .1) (rw (given-bound G j lj) at (after-admit-rule .admit-rule .ensures)) lj (c .if1 .left)),
+      after-admit-rule .admit-rule .ensures .put .extends .long ∙ turn .before .loop .inv .1 .long,
     )
 
 same-length-2 : tie.Need-same-length-2 Inv-loop μ-loop

@@ -33,37 +33,64 @@ element-copy-out-x : tie.Need-element-copy-out-x
 element-copy-out-x c = omega (arith, head-most (c), c .before .before .before .pre .0 .long)
 
 add-x : tie.Need-add-x
-add-x c = omega (arith, c .before .before .before .before .pre .0 .most (c .before .wide2 .result) (head-most (c .before)))
+add-x c =
+    let entry : tie.Start = search needs in
+    omega (arith, entry .pre .0 .most (c .before .wide2 .result) (head-most (c .before)))
 
 mul-if1 : tie.Need-mul-if1
 mul-if1 c = omega (arith, tail-most (c .before .before .before))
 
 element-copy-out-if1 : tie.Need-element-copy-out-if1
-element-copy-out-if1 c = omega (arith, tail-most (c .before .before .before), c .before .before .before .before .pre .0 .long)
+element-copy-out-if1 c =
+    let entry : tie.Start = search needs in
+    omega (arith, tail-most (search needs), entry .pre .0 .long)
 
 add-if1 : tie.Need-add-if1
-add-if1 c = omega (arith, c .before .before .before .before .before .pre .0 .most (c .before .before .before .before .wide .result) (tail-most (c .before .before .before .before)), cost-most (c .before .before .before))
+add-if1 c =
+    let after-wide : tie.After-wide = search needs in
+    let entry : tie.Start = search needs in
+    omega (arith, entry .pre .0 .most (after-wide .wide .result) (tail-most after-wide), cost-most (search needs))
 
 returns : tie.Need-returns
 returns c =
-    let s = c .before .before .before .before .before .before in
-    let cost = rw (toZ-ofZ w32 (s .args .bound) (s .fits .bound)) at (c .before .before .before .before .cost .ensures) in
-    (s .pre .0, raised-held (omega (arith, c .if1 .taken, ap (at (s .args .times .now)) (c .before .before .before .before .before .wide .ensures), ap (at (s .args .times .now)) (c .before .before .before .wide2 .ensures), cost)))
+    let after-wide2 : tie.After-wide2 = search needs in
+    let after-cost : tie.After-cost = search needs in
+    let after-wide : tie.After-wide = search needs in
+    let s : tie.Start = search needs in
+    let cost = rw (toZ-ofZ w32 (s .args .bound) (s .fits .bound)) at (after-cost .cost .ensures) in (
+      s .pre .0,
+      raised-held (omega (
+        arith,
+        c .if1 .taken,
+        ap (at (s .args .times .now)) (after-wide .wide .ensures),
+        ap (at (s .args .times .now))
+            (after-wide2 .wide2 .ensures),
+        cost,
+      )),
+    )
 
 returns-2 : tie.Need-returns-2
-returns-2 c = (c .before .before .before .before .before .before .before .pre .0, raised-other (omega arith))
+returns-2 c =
+    let entry : tie.Start = search needs in
+    (entry .pre .0, raised-other (omega arith))
 
 returns-3 : tie.Need-returns-3
-returns-3 c = (c .before .before .before .before .before .before .before .before .pre .0, raised-other (omega arith))
+returns-3 c =
+    let entry : tie.Start = search needs in
+    (entry .pre .0, raised-other (omega arith))
 
 mul-times : tie.Need-mul-times
-mul-times c = omega (arith, tail-most (c .before .before .before .before .before .before .before))
+mul-times c = omega (arith, tail-most (search needs))
 
 element-write-times : tie.Need-element-write-times
-element-write-times c = omega (arith, tail-most (c .before .before .before .before .before .before .before), c .before .before .before .before .before .before .before .before .pre .0 .long)
+element-write-times c =
+    let entry : tie.Start = search needs in
+    omega (arith, tail-most (search needs), entry .pre .0 .long)
 
 returns-4 : tie.Need-returns-4
-returns-4 c = (low-set (omega arith) (omega (arith, tail-most (c .before .before .before .before .before .before .before))) (omega arith) (c .before .before .before .before .before .before .before .before .pre .0), raised-other (omega arith))
+returns-4 c =
+    let entry : tie.Start = search needs in
+    (low-set (omega arith) (omega (arith, tail-most (search needs))) (omega arith) (entry .pre .0), raised-other (omega arith))
 
 pub raise-spec : {M : Type 1} → statement M
 raise-spec =

@@ -28,25 +28,32 @@ loop2-holds c = let l = c .before .loop .inv in rounds-start (l .0) (l .1) (l .2
 
 raise-requires : tie.Need-raise-requires Inv-loop2 μ-loop2 Inv-loop μ-loop
 raise-requires c κs =
-    let G = c .before .before .before .before .before .before .before .before .pre .0 in
-    let j = c .before .before .before .before .before .loop2 .j in
-    let lj : j < c .before .before .before .before .before .before .before .before .args .t1 .rules = omega (arith, c .before .before .before .before .before .loop2 .inv .few) in
-    (c .before .before .before .before .before .loop2 .inv .low, (rw (given-bound G j lj) (given-small G j lj), (G .few, G .top)))
+    let at-loop2 : tie.At-loop2 Inv-loop2 μ-loop2 Inv-loop μ-loop = search needs in
+    let entry : tie.Start Inv-loop2 μ-loop2 Inv-loop μ-loop = search needs in
+    let G = entry .pre .0 in
+    let j = at-loop2 .loop2 .j in
+    let lj : j < entry .args .t1 .rules = omega (arith, at-loop2 .loop2 .inv .few) in
+    (at-loop2 .loop2 .inv .low, (rw (given-bound G j lj) (given-small G j lj), (G .few, G .top)))
 
 returns : tie.Need-returns Inv-loop2 μ-loop2 Inv-loop μ-loop
 returns c =
-    let t = c .before .before .before .before .before .before .before .before .before .before .args .t1 in
+    let entry : tie.Start Inv-loop2 μ-loop2 Inv-loop μ-loop = search needs in
+    let t = entry .args .t1 in
     (c .before .raise .ensures .0, λ (i : ℕ) (lo : t .rules + 1 ≤ i) (hi : i < t .rules). absurd (omega arith))
 
 loop2-again : tie.Need-loop2-again Inv-loop2 μ-loop2 Inv-loop μ-loop
-loop2-again c = rounds-raised (c .before .before .before .before .before .before .before .before .loop2 .inv) (omega arith) (c .before .before .raise .ensures .0)
+loop2-again c =
+    let at-loop2 : tie.At-loop2 Inv-loop2 μ-loop2 Inv-loop μ-loop = search needs in
+    rounds-raised (at-loop2 .loop2 .inv) (omega arith) (c .before .before .raise .ensures .0)
 
 loop2-again-2 : tie.Need-loop2-again-2 Inv-loop2 μ-loop2 Inv-loop μ-loop
 loop2-again-2 c =
-    let G = c .before .before .before .before .before .before .before .before .before .before .before .pre .0 in
-    let j = c .before .before .before .before .before .before .before .before .loop2 .j in
-    let lj : j < c .before .before .before .before .before .before .before .before .before .before .before .args .t1 .rules = omega (arith, c .before .before .before .before .before .before .before .before .loop2 .inv .few) in
-    rounds-held (c .before .before .before .before .before .before .before .before .loop2 .inv) (omega arith) (rw (given-bound G j lj) at (c .before .before .raise .ensures .1)) (c .if2 .left)
+    let at-loop2 : tie.At-loop2 Inv-loop2 μ-loop2 Inv-loop μ-loop = search needs in
+    let entry : tie.Start Inv-loop2 μ-loop2 Inv-loop μ-loop = search needs in
+    let G = entry .pre .0 in
+    let j = at-loop2 .loop2 .j in
+    let lj : j < entry .args .t1 .rules = omega (arith, at-loop2 .loop2 .inv .few) in
+    rounds-held (at-loop2 .loop2 .inv) (omega arith) (rw (given-bound G j lj) at (c .before .before .raise .ensures .1)) (c .if2 .left)
 
 returns-2 : tie.Need-returns-2 Inv-loop2 μ-loop2 Inv-loop μ-loop
 returns-2 c =
