@@ -116,8 +116,10 @@ module _ {t : Ticket} (G : Given t) (flags : List Bool) (old : List Window) {low
       )))
     where
       box : (i : ℕ) → i < t .events
-          → (cond (flagged flags (suc i)) (temporal.windowOf old (suc i) .opens) 0 ≤ temporal.windowOf ws (suc i) .opens) × (temporal.windowOf ws (suc i) .opens ≤ temporal.windowOf old (suc i) .opens)
-          × (temporal.windowOf old (suc i) .closes ≤ temporal.windowOf ws (suc i) .closes) × (temporal.windowOf ws (suc i) .closes ≤ cond (flagged flags (suc i)) (temporal.windowOf old (suc i) .closes) (t .horizon))
+          → (cond (flagged flags (suc i)) (temporal.windowOf old (suc i) .opens) 0 ≤ temporal.windowOf ws (suc i) .opens)
+          × (temporal.windowOf ws (suc i) .opens ≤ temporal.windowOf old (suc i) .opens)
+          × (temporal.windowOf old (suc i) .closes ≤ temporal.windowOf ws (suc i) .closes)
+          × (temporal.windowOf ws (suc i) .closes ≤ cond (flagged flags (suc i)) (temporal.windowOf old (suc i) .closes) (t .horizon))
       box i l = keeps-box (flagged flags (suc i)) (t .horizon) (temporal.windowOf old (suc i)) (temporal.windowOf ws (suc i))
           (omega (arith, g .ends .inside (suc i))) (g .kept (suc i) (omega (arith, in-events t)))
 

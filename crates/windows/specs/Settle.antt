@@ -206,7 +206,8 @@ module _ {t : Ticket} {flags opens closes : List ℕ} {event o c : ℕ} (A : Ask
       event (record { opens = o; closes = c }) (asked .event .0) (asked .event .1) (asked .after) (asked .ordered) (asked .before))
 
   pub commit-answer : (opens' closes' : List ℕ)
-      → Chosen (content t) (Grows (content t) (flagList (t .events) (set flags (event - 1) 1)) (windowList (t .events) (set opens (event - 1) o) (set closes (event - 1) c))) (windowList (t .events) opens' closes')
+      → Chosen (content t) (Grows (content t) (flagList (t .events) (set flags (event - 1) 1)) (windowList (t .events) (set opens (event - 1) o) (set closes (event - 1) c)))
+      (windowList (t .events) opens' closes')
       → (count : ℕ) → commit (stateIn t flags opens closes count) (asking event o c) ≡ accepted (stateIn t (set flags (event - 1) 1) opens' closes' (suc count))
   unfolding cause windowList flagList
   commit-answer opens' closes' C count =

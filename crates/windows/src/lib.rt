@@ -124,7 +124,9 @@ fn widen(
     requires { ⌜ Given t ⌝ }
     requires { ⌜ Room t (now net) (now opens) (now closes) ⌝ }
     requires { ⌜ Ends (content t) (windowList (t .events) (now opens) (now closes)) ⌝ }
-    ensures { λ _. ⌜ Chosen (content t) (Grows (content t) (flagList (t .events) (now (flags .entry))) (windowList (t .events) (now (opens .entry)) (now (closes .entry)))) (windowList (t .events) (now (opens .exit)) (now (closes .exit))) ⌝ }
+    ensures { λ _.
+        ⌜ Chosen (content t) (Grows (content t) (flagList (t .events) (now (flags .entry))) (windowList (t .events) (now (opens .entry)) (now (closes .entry))))
+        (windowList (t .events) (now (opens .exit)) (now (closes .exit))) ⌝ }
     ensures { λ _. ⌜ Within (t .events) (now (opens .entry)) (now (opens .exit)) × Within (t .events) (now (closes .entry)) (now (closes .exit)) ⌝ }
     ensures { λ _. ⌜ length (now (net .exit)) ≡ length (now (net .entry)) ⌝ }
 {

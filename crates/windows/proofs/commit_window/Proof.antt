@@ -4,6 +4,7 @@ use mathlib.Core.Path.{refl}
 use lib.ListN.{length-set}
 use Rattle.potentials.specs.Arrays.{valid-given}
 use Rattle.windows.specs.Settle.{asked-event, asked-ends, ends-lie, commit-answer, asked-within}
+use borrow.Author.Needs.{needs}
 use Rattle.windows.proofs.commit_window.Statement.{statement}
 use Rattle.windows.proofs.commit_window.Tie as tie
 
@@ -27,15 +28,25 @@ element-write-closes c = omega (arith, asked-event (c .before .pre .1), c .befor
 
 widen-requires : tie.Need-widen-requires
 widen-requires c κs =
-    let A = c .before .before .before .before .before .pre .1 in
-    (valid-given (c .before .before .before .before .before .args .t) (A .valid), (record { size = c .before .before .before .before .before .pre .0 .size; opens-long = simp length-set (A .opens-long); closes-long = simp length-set (A .closes-long) }, asked-ends A))
+    let entry : tie.Start = search needs in
+    let A = entry .pre .1 in (
+      valid-given (entry .args .t) (A .valid),
+      (
+        record {
+          size = entry .pre .0 .size;
+          opens-long = simp length-set (A .opens-long);
+          closes-long = simp length-set (A .closes-long);
+        },
+        asked-ends A,
+      ),
+    )
 
 same-length : tie.Need-same-length
 same-length c = c .before .before .widen .ensures .1 .1
 
 returns : tie.Need-returns
 returns c =
-    let s = c .before .before .before .before .before .before .before .before in
+    let s : tie.Start = search needs in
     let A = s .pre .1 in
     let w = c .before .before .widen .ensures in (
       record {
