@@ -19,7 +19,8 @@ use Rattle.ticket.specs.Laws.{was-refused, was-got}
 use Rattle.ticket.specs.declared.ReadTicket.{ReadTicket}
 use Rattle.ticket.specs.declared.ReadRecord.{ReadRecord}
 use Rattle.causes.specs.Zeroed.{past, zeroed-rest}
-use Rattle.runs.specs.Calls.{Outcome, zeroed, cleared, withoutRoom, answered, afterReading, planning, committing, enough-room, no-room-out, planning-short, planning-read, committing-short, committing-read}
+use Rattle.runs.specs.Calls.{Outcome, zeroed, cleared, withoutRoom, answered, afterReading, planning, committing}
+use Rattle.runs.specs.Calls.{enough-room, no-room-out, planning-short, planning-read, committing-short, committing-read}
 use Rattle.ticket.specs.Agree.{content-stored}
 use Rattle.causes.specs.Structs.{state-of, Kept, kept-read}
 use Rattle.plan.specs.Returned.{returned}
@@ -132,7 +133,8 @@ reading-clears out scratch decide (Out.got x rest) = clears out scratch (decide 
 reading-clears out scratch decide (Out.refused k) = refl
 
 pub whole-read : {A : Type 0} (out scratch : List ℕ) (decide : A → Decision) (o : Out A) {whole : Outcome} {a : Answer} {out′ scratch′ scratch″ : List ℕ}
-    → whole ≡ afterReading out scratch decide o → Meets (afterReading out scratch decide o) scratch a out′ scratch′ → scratch″ ≡ zeroed 8192 scratch′ → Whole whole a out′ scratch″
+    → whole ≡ afterReading out scratch decide o → Meets (afterReading out scratch decide o) scratch a out′ scratch′
+    → scratch″ ≡ zeroed 8192 scratch′ → Whole whole a out′ scratch″
 whole-read out scratch decide o {scratch′ = scratch′} e m c = (
   m .answer-is ∙ ap returned (sym e),
   (

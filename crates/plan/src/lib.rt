@@ -83,7 +83,9 @@ fn plan_ticket(t: ticket::Ticket, out: &mut [u8], scratch: &mut [u32]) -> Answer
 // Plan the ticket that the bytes hold, where there is room. Of the scratch the first 1,824 numbers are used, and not cleared.
 pub fn plan_bytes(ticket: &[u8], out: &mut [u8], scratch: &mut [u32]) -> Answer
     requires { ⌜ (1948 ≤ length (now out)) × (1824 ≤ length (now scratch)) ⌝ }
-    ensures { λ a. ⌜ Meets (afterReading (now (out .entry)) (now (scratch .entry)) plan (wholly readTicket (now (ticket .entry)))) (now (scratch .entry)) a (now (out .exit)) (now (scratch .exit)) ⌝ }
+    ensures { λ a.
+        ⌜ Meets (afterReading (now (out .entry)) (now (scratch .entry)) plan (wholly readTicket (now (ticket .entry))))
+        (now (scratch .entry)) a (now (out .exit)) (now (scratch .exit)) ⌝ }
 {
     let read = reading::read_ticket(ticket);
     if read.number != 0 {
@@ -153,7 +155,9 @@ fn commit_record(
     scratch: &mut [u32],
 ) -> Answer
     requires { ⌜ Kept r × (1948 ≤ length (now out)) × (1824 ≤ length (now scratch)) ⌝ }
-    ensures { λ a. ⌜ Meets (answered (now (out .entry)) (now (scratch .entry)) (commit (stateOf r) (asking event opens closes))) (now (scratch .entry)) a (now (out .exit)) (now (scratch .exit)) ⌝ }
+    ensures { λ a.
+        ⌜ Meets (answered (now (out .entry)) (now (scratch .entry)) (commit (stateOf r) (asking event opens closes)))
+        (now (scratch .entry)) a (now (out .exit)) (now (scratch .exit)) ⌝ }
 {
     let refused = causes::cause(r, event, opens, closes);
     if refused != 0 {
@@ -174,8 +178,8 @@ pub fn commit_bytes(
 ) -> Answer
     requires { ⌜ (1948 ≤ length (now out)) × (1824 ≤ length (now scratch)) ⌝ }
     ensures { λ a.
-        ⌜ Meets (afterReading (now (out .entry)) (now (scratch .entry)) (λ (s : State). commit s (asking event opens closes)) (wholly readState (now («record» .entry))))
-        (now (scratch .entry)) a (now (out .exit)) (now (scratch .exit)) ⌝ }
+        ⌜ Meets (afterReading (now (out .entry)) (now (scratch .entry)) (λ (s : State). commit s (asking event opens closes))
+        (wholly readState (now («record» .entry)))) (now (scratch .entry)) a (now (out .exit)) (now (scratch .exit)) ⌝ }
 {
     let read = reading_records::read_record(record);
     if read.number != 0 {

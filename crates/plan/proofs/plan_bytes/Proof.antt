@@ -12,10 +12,21 @@ refusal-requires : tie.Need-refusal-requires
 refusal-requires c κs = search needs
 
 returns : tie.Need-returns
-returns c = ticket-misread (c .before .before .before .before .before .before .before .args .ticket .now) (c .before .before .before .read-ticket .ensures) (c .before .if1 .taken) (c .refusal .ensures)
+returns c =
+    let after-read-ticket : tie.After-read-ticket = search needs in
+    let entry : tie.Start = search needs in
+    ticket-misread (entry .args .ticket .now) (after-read-ticket .read-ticket .ensures) (c .before .if1 .taken) (c .refusal .ensures)
 
 plan-ticket-requires : tie.Need-plan-ticket-requires
-plan-ticket-requires c κs = (ticket-read (c .before .before .before .before .before .before .before .before .before .args .ticket .now) (c .before .before .before .before .before .read-ticket .ensures) (c .before .before .before .if1 .left) (λ i. omega (arith, c .before .before .before .before .before .before .before .before .shared-slice-known .given i)), c .before .before .before .before .before .before .before .before .before .pre)
+plan-ticket-requires c κs =
+    let parsed : tie.Else1 = search needs in
+    let after-read-ticket : tie.After-read-ticket = search needs in
+    let known : tie.After-shared-slice-known = search needs in
+    let entry : tie.Start = search needs in (
+      ticket-read (entry .args .ticket .now) (after-read-ticket .read-ticket .ensures) (parsed .if1 .left)
+          (λ i. omega (arith, known .shared-slice-known .given i)),
+      entry .pre,
+    )
 
 same-length : tie.Need-same-length
 same-length c = search needs
@@ -24,7 +35,13 @@ same-length-2 : tie.Need-same-length-2
 same-length-2 c = search needs
 
 returns-2 : tie.Need-returns-2
-returns-2 c = ticket-meets (c .before .before .before .before .before .before .before .before .before .before .before .before .before .before .args .ticket .now) (c .before .before .before .before .before .before .before .before .before .before .read-ticket .ensures) (c .before .before .before .before .before .before .before .before .if1 .left) (c .before .before .before .before .before .before .before .before .before .before .before .before .before .before .args .out .now) (c .before .before .before .before .plan-ticket .ensures)
+returns-2 c =
+    let after-plan-ticket : tie.After-plan-ticket = search needs in
+    let parsed : tie.Else1 = search needs in
+    let after-read-ticket : tie.After-read-ticket = search needs in
+    let entry : tie.Start = search needs in
+    ticket-meets (entry .args .ticket .now) (after-read-ticket .read-ticket .ensures) (parsed .if1 .left) (entry .args .out .now)
+    (after-plan-ticket .plan-ticket .ensures)
 
 pub plan-bytes-spec : {M : Type 1} → statement M
 plan-bytes-spec =

@@ -14,10 +14,14 @@ slice-relend-prefix-plan-windows : tie.Need-slice-relend-prefix-plan-windows
 slice-relend-prefix-plan-windows c = search needs
 
 slice-aggregate-plan-windows : tie.Need-slice-aggregate-plan-windows
-slice-aggregate-plan-windows c = sym (length-take-le 1824 (c .before .before .before .args .scratch .now) (omega (arith, c .before .before .before .pre .1)))
+slice-aggregate-plan-windows c =
+    let entry : tie.Start = search needs in
+    sym (length-take-le 1824 (entry .args .scratch .now) (omega (arith, entry .pre .1)))
 
 plan-windows-requires : tie.Need-plan-windows-requires
-plan-windows-requires c κs = plan-asked (c .before .before .before .before .before .pre .0) (length-take-le 1824 (c .before .before .before .before .before .args .scratch .now) (omega (arith, c .before .before .before .before .before .pre .1))) refl refl
+plan-windows-requires c κs =
+    let entry : tie.Start = search needs in
+    plan-asked (entry .pre .0) (length-take-le 1824 (entry .args .scratch .now) (omega (arith, entry .pre .1))) refl refl
 
 refusal-requires : tie.Need-refusal-requires
 refusal-requires c κs = search needs
@@ -27,11 +31,18 @@ same-length c = search needs
 
 returns : tie.Need-returns
 returns c =
-    meets-refused (c .before .before .before .before .before .before .before .before .before .before .args .out .now) (planned-none (c .before .before .before .before .plan-windows .ensures .0) (not-true _ (c .before .if1 .taken))) (c .refusal .ensures)
-    (past-part 8192 1824 (c .before .before .before .before .before .before .before .before .before .before .args .scratch .now) (c .before .before .before .before .plan-windows .last .0) (omega arith) (c .before .before .before .before .plan-windows .ensures .1 ∙ length-take-le 1824 (c .before .before .before .before .before .before .before .before .before .before .args .scratch .now) (omega (arith, c .before .before .before .before .before .before .before .before .before .before .pre .1))))
+    let after-plan-windows : tie.After-plan-windows = search needs in
+    let entry : tie.Start = search needs in
+    meets-refused (entry .args .out .now) (planned-none (after-plan-windows .plan-windows .ensures .0) (not-true _ (c .before .if1 .taken)))
+    (c .refusal .ensures)
+    (past-part 8192 1824 (entry .args .scratch .now) (after-plan-windows .plan-windows .last .0) (omega arith)
+    (after-plan-windows .plan-windows .ensures .1 ∙ length-take-le 1824 (entry .args .scratch .now) (omega (arith, entry .pre .1))))
 
 write-out-requires : tie.Need-write-out-requires
-write-out-requires c κs = (kept-planned (c .before .before .before .before .plan-windows .ensures .0) (c .before .before .before .before .before .before .before .before .before .before .pre .0) refl refl (not-false _ (c .before .if1 .left)), c .before .before .before .before .before .before .before .before .before .before .pre .1 .0)
+write-out-requires c κs =
+    let after-plan-windows : tie.After-plan-windows = search needs in
+    let entry : tie.Start = search needs in
+    (kept-planned (after-plan-windows .plan-windows .ensures .0) (entry .pre .0) refl refl (not-false _ (c .before .if1 .left)), entry .pre .1 .0)
 
 same-length-2 : tie.Need-same-length-2
 same-length-2 c = search needs
@@ -41,8 +52,14 @@ same-length-3 c = search needs
 
 returns-2 : tie.Need-returns-2
 returns-2 c =
-    meets-accepted (c .before .before .before .before .before .before .before .before .before .before .before .before .before .args .out .now) (planned-some (c .before .before .before .before .before .before .before .plan-windows .ensures .0) (not-false _ (c .before .before .before .before .if1 .left))) (c .before .before .write-out .ensures .0) (c .before .before .write-out .ensures .1)
-    (past-part 8192 1824 (c .before .before .before .before .before .before .before .before .before .before .before .before .before .args .scratch .now) (c .before .before .before .before .before .before .before .plan-windows .last .0) (omega arith) (c .before .before .before .before .before .before .before .plan-windows .ensures .1 ∙ length-take-le 1824 (c .before .before .before .before .before .before .before .before .before .before .before .before .before .args .scratch .now) (omega (arith, c .before .before .before .before .before .before .before .before .before .before .before .before .before .pre .1))))
+    let after-write-out : tie.After-write-out = search needs in
+    let accepted : tie.Else1 = search needs in
+    let after-plan-windows : tie.After-plan-windows = search needs in
+    let entry : tie.Start = search needs in
+    meets-accepted (entry .args .out .now) (planned-some (after-plan-windows .plan-windows .ensures .0) (not-false _ (accepted .if1 .left)))
+    (after-write-out .write-out .ensures .0) (after-write-out .write-out .ensures .1)
+    (past-part 8192 1824 (entry .args .scratch .now) (after-plan-windows .plan-windows .last .0) (omega arith)
+    (after-plan-windows .plan-windows .ensures .1 ∙ length-take-le 1824 (entry .args .scratch .now) (omega (arith, entry .pre .1))))
 
 pub plan-ticket-spec : {M : Type 1} → statement M
 plan-ticket-spec =
