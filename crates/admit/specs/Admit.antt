@@ -84,7 +84,7 @@ module _ {net : List ℕ} {m nodes : ℕ} {pot tails heads : List ℕ} (G : Grow
           (λ x. R .all (omega arith) b lb .0)
 
 -- what `admit` asks of the edge
-pub record Fits (net : List ℕ) (m nodes a b c : ℕ) : Type 0 where
+pub record Admissible (net : List ℕ) (m nodes a b c : ℕ) : Type 0 where
   pub size : 4 * m + 3 < length net
   pub room : m < 2 * nodes + 317
   pub tail : a < nodes
@@ -98,7 +98,7 @@ pub record Admits (net net' : List ℕ) (m nodes : ℕ) (pot tails heads : List 
   pub refused : r ≡ false → Growing net' m nodes pot tails heads × Impossible net m a b c
 
 module _ {net net' : List ℕ} {m nodes : ℕ} {pot tails heads : List ℕ} {a b c : ℕ} (P : Put net net' m a b c) (A : Approached net' m nodes pot tails heads a b c) where
-  pub admits-yes : {tails' heads' : List ℕ} (place : ℕ) → Fits net m nodes a b c → at pot b + 1000000 ≤ at pot a + c → place ≡ 81 + (m + 2 - 2 * nodes)
+  pub admits-yes : {tails' heads' : List ℕ} (place : ℕ) → Admissible net m nodes a b c → at pot b + 1000000 ≤ at pot a + c → place ≡ 81 + (m + 2 - 2 * nodes)
       → tails' ≡ set (set tails place (at tails a)) a (m + 1) → heads' ≡ set (set heads place (at heads b)) b (m + 1) → Admits net net' m nodes pot tails' heads' a b c true
   admits-yes place F d there T H =
       let N = A .growing .flowless .network in

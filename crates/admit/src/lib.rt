@@ -3,7 +3,7 @@
 
 ghost use Prim.Native.Nat.{_<_, _≤_};
 ghost use Rattle.network.specs.Grow.{Growing};
-ghost use Rattle.admit.specs.Admit.{Approached, Fits, Admits};
+ghost use Rattle.admit.specs.Admit.{Approached, Admissible, Admits};
 use network::BIAS;
 
 // Where the demand of an edge from a to b at the biased cost c fails, move the potential as far towards it as the edges allow.
@@ -55,7 +55,7 @@ pub fn admit(
     c: u32,
 ) -> bool
     requires { ⌜ Growing (now net) m nodes (now pot) (now tails) (now heads) ⌝ }
-    requires { ⌜ Fits (now net) m nodes a b c ⌝ }
+    requires { ⌜ Admissible (now net) m nodes a b c ⌝ }
     ensures { λ r. ⌜ Admits (now (net .entry)) (now (net .exit)) m nodes (now (pot .exit)) (now (tails .exit)) (now (heads .exit)) a b c r ⌝ }
 {
     network::put(net, m, a, b, c);

@@ -10,7 +10,7 @@ use Rattle.network.specs.Stored.{at}
 use Rattle.ticket.specs.Writing.{content, stateOf}
 use Rattle.ticket.specs.declared.Record.{Record}
 use Rattle.potentials.specs.Arrays.{windowList, in-events}
-use Rattle.causes.specs.Structs.{Kept, flag-of, open-of, close-of}
+use Rattle.causes.specs.Structs.{Canonical, flag-of, open-of, close-of}
 
 -- by numbers: whether the windows are fit, n events, the event, its flag, whether the window named leaves the one that the event has
 
@@ -22,7 +22,7 @@ firstCause fit n event committed leaves =
     (cond leaves 13
     0)))
 
-module _ (r : Record) (ok : Kept r) (event opens closes : ℕ) where
+module _ (r : Record) (ok : Canonical r) (event opens closes : ℕ) where
   pub cause-of : cause (stateOf r) (asking event opens closes)
       ≡ firstCause (fits (content (r .ticket)) (stateOf r .windows)) (r .ticket .events) event (eqb (at (0 ∷ r .flags) event) 1)
       (ltb closes opens || (ltb opens (at (0 ∷ r .opens) event) || ltb (at (0 ∷ r .closes) event) closes))

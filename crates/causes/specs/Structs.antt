@@ -1,4 +1,4 @@
--- A record that the code hands on is Kept: what it says is readable, with zeros past its events in the arrays of windows and flags.
+-- A record that the code hands on is Canonical: what it says is readable, with zeros past its events in the arrays of windows and flags.
 -- What a struct says is `ticket`'s `content` and `stateOf`; of its arrays alone `potentials` says it.
 use mathlib.Core.Path.{_≡_, refl, sym, ap, subst, _∙_}
 use mathlib.Core.Bool.{Bool, true, false}
@@ -66,15 +66,15 @@ module _ (s : State) (ok : Readable s) where
 
 -- ---- a record that the code hands on
 
-pub record Kept (r : Record) : Type 0 where
+pub record Canonical (r : Record) : Type 0 where
   pub flags-past : Past (r .ticket .events) (r .flags)
   pub opens-past : Past (r .ticket .events) (r .opens)
   pub closes-past : Past (r .ticket .events) (r .closes)
   pub bits : (i : ℕ) → at (r .flags) i ≤ 1
   pub readable : Readable (stateOf r)
 
-pub kept-read : (s : State) → Readable s → Kept (storedState s)
-kept-read s ok = record {
+pub canonical-read : (s : State) → Readable s → Canonical (storedState s)
+canonical-read s ok = record {
   flags-past = subst (λ n. Past n (storedState s .flags)) (ok .flags-count) (pad-past flagByte (s .flags) (omega (arith, ok .flags-count, ok .valid .events-limit)));
   opens-past = subst (λ n. Past n (storedState s .opens)) (ok .windows-count) (pad-past (λ (w : Window). w .opens) (s .windows) (few s ok));
   closes-past = subst (λ n. Past n (storedState s .closes)) (ok .windows-count) (pad-past (λ (w : Window). w .closes) (s .windows) (few s ok));
@@ -90,12 +90,12 @@ kept-read s ok = record {
     by i (inl l) = omega (arith, field-at flagByte false 40 (s .flags) i l, flag-byte (getD (s .flags) i false))
     by i (inr l) = omega (arith, pad-past flagByte (s .flags) (omega (arith, ok .flags-count, ok .valid .events-limit)) .zero-past i l)
 
-module _ (r : Record) (ok : Kept r) where
+module _ (r : Record) (ok : Canonical r) where
   counted : events (content (r .ticket)) ≡ r .ticket .events
   counted = in-events (r .ticket)
 
-  pub kept-few : r .ticket .events ≤ 40
-  kept-few = omega (arith, counted, ok .readable .valid .events-limit)
+  pub canonical-few : r .ticket .events ≤ 40
+  canonical-few = omega (arith, counted, ok .readable .valid .events-limit)
 
   -- the flag and the window of a point, in the arrays
   pub flag-of : (p : ℕ) → flagged (stateOf r .flags) p ≡ eqb (at (0 ∷ r .flags) p) 1
@@ -116,25 +116,25 @@ module _ (r : Record) (ok : Kept r) where
       (λ i l. ap (λ (w : Window). w .closes) (window-at (r .ticket .events) (r .opens) (r .closes) i l))
       (λ q l. ap (λ (w : Window). w .closes) (getD-past (origin ∷ stateOf r .windows) origin q (omega (arith, ok .readable .windows-count, counted))) ∙ sym (past-point (ok .closes-past) q l))
 
-  pub kept-number : r .number ≤ 40
-  kept-number = omega (arith, ok .readable .number, flags-small (stateOf r .flags), ok .readable .flags-count, ok .readable .valid .events-limit)
+  pub canonical-number : r .number ≤ 40
+  canonical-number = omega (arith, ok .readable .number, flags-small (stateOf r .flags), ok .readable .flags-count, ok .readable .valid .events-limit)
 
-  pub kept-lies : Lie (r .ticket) (r .opens) (r .closes)
+  pub canonical-lies : Lie (r .ticket) (r .opens) (r .closes)
   unfolding windowList
-  kept-lies = ok .readable .windows-lie
+  canonical-lies = ok .readable .windows-lie
 
   -- it can be written with no test
-  pub kept-storable : Storable r
-  kept-storable = record {
-    events-limit = kept-few;
+  pub canonical-storable : Storable r
+  canonical-storable = record {
+    events-limit = canonical-few;
     rules-limit = omega (arith, in-rules (r .ticket), ok .readable .valid .rules-limit);
     flags-known = λ i l. ok .bits i;
   }
 
 -- ---- windows, to be tested and summed
 
-pub lies-asked : {r : Record} → Kept r → Valid (content (r .ticket)) × Lie (r .ticket) (r .opens) (r .closes)
-lies-asked {r} ok = (ok .readable .valid, kept-lies r ok)
+pub lies-asked : {r : Record} → Canonical r → Valid (content (r .ticket)) × Lie (r .ticket) (r .opens) (r .closes)
+lies-asked {r} ok = (ok .readable .valid, canonical-lies r ok)
 
 -- the number of a point in an array
 pub point-in : (xs : List ℕ) (p : ℕ) → (p ≡ 0 → ⊥) → at xs (p - 1) ≡ at (0 ∷ xs) p

@@ -11,7 +11,7 @@ ghost use Rattle.temporal.specs.Plan.{cause, asking};
 ghost use Rattle.ticket.specs.Writing.{stateOf};
 ghost use Rattle.network.specs.Stored.{at};
 ghost use Rattle.runs.specs.Calls.{cleared};
-ghost use Rattle.causes.specs.Structs.{Kept};
+ghost use Rattle.causes.specs.Structs.{Canonical};
 ghost use Rattle.causes.specs.FirstCause.{firstCause};
 use ticket::Ticket;
 
@@ -108,7 +108,7 @@ fn flag_at(flags: &[u8; Ticket::EVENTS], event: u32) -> bool
 
 // The first cause to refuse a commitment to the record.
 pub fn cause(r: ticket::Record, event: u32, opens: u32, closes: u32) -> u32
-    requires { ⌜ Kept r ⌝ }
+    requires { ⌜ Canonical r ⌝ }
     ensures { λ k. ⌜ k ≡ cause (stateOf r) (asking event opens closes) ⌝ }
 {
     let t = r.ticket;

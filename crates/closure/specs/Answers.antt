@@ -19,7 +19,7 @@ use Rattle.temporal.specs.TableRows.{length-rows, rows-at}
 use Rattle.closure.specs.Signed.{lower}
 use Rattle.closure.specs.Matrix.{Matrix, none, join, Everywhere}
 use Rattle.closure.specs.Start.{start, started}
-use Rattle.closure.specs.Stops.{after, Floors, Kept, Working, working}
+use Rattle.closure.specs.Stops.{after, Floors, AboveFloors, Working, working}
 use Rattle.closure.specs.Distances.{small, all-consistent, all-distance, no-schedule}
 use Rattle.closure.specs.Steps.{Closed, Written}
 use Rattle.closure.specs.Written.{flat-below, square}
@@ -35,8 +35,8 @@ module _ (n : ℕ) (D E : Matrix) (same : Everywhere n (λ i j. D i j ≡ E i j)
       let lp : p ≤ n = omega arith in
       ap₂ min (after-same s i j li lj) (ap₂ join (after-same s i p li lp) (after-same s p j lp lj))
 
-  kept-same : (s : ℕ) → Kept n D s → Kept n E s
-  kept-same s h r l i j li lj = rw (← (after-same r i j li lj)) (h r l i j li lj)
+  floors-same : (s : ℕ) → AboveFloors n D s → AboveFloors n E s
+  floors-same s h r l i j li lj = rw (← (after-same r i j li lj)) (h r l i j li lj)
 
 module _ (h n : ℕ) (rules : List Rule) (valid : Valid (ticketOf h n rules)) (D : Matrix) (same : Everywhere n (λ i j. D i j ≡ start h rules i j)) where
   count : events (ticketOf h n rules) ≡ n
@@ -56,7 +56,7 @@ module _ (h n : ℕ) (rules : List Rule) (valid : Valid (ticketOf h n rules)) (D
         (after (events (ticketOf h n rules)) (start h rules) (events (ticketOf h n rules) + 1))
     finished e =
         working (ticketOf h n rules) valid (events (ticketOf h n rules) + 1) (omega arith)
-        (rw count (kept-same n D (start h rules) same (n + 1) (closed .kept e)))
+        (rw count (floors-same n D (start h rules) same (n + 1) (closed .kept e)))
 
     pub closed-small : r ≡ true → Everywhere n (λ i j. R i j ≤ 3000000)
     closed-small e i j li lj =
@@ -79,7 +79,7 @@ module _ (h n : ℕ) (rules : List Rule) (valid : Valid (ticketOf h n rules)) (D
         let row-in = f .row-in in
         let column-in = f .column-in in
         no-schedule (ticketOf h n rules) valid (s .stop) (omega (arith, count))
-        (rw count (kept-same n D (start h rules) same (s .stop) (s .before)))
+        (rw count (floors-same n D (start h rules) same (s .stop) (s .before)))
         (f .row) (f .column) (omega (arith, count)) (omega (arith, count))
         (rw (count, ← (after-same n D (start h rules) same (suc (s .stop)) (f .row) (f .column) row-in column-in)) (f .low))
 

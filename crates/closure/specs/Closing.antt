@@ -7,12 +7,12 @@ use native.Mathlib.Nat.{le-suc-iff}
 use native.Mathlib.Numerals.{add-one}
 use native.Mathlib.Omega.{arith}
 use Rattle.closure.specs.Matrix.{Matrix, none, join, relax, floor-low, Everywhere, Stored}
-use Rattle.closure.specs.Stops.{after, after-top, Floors, Kept}
+use Rattle.closure.specs.Stops.{after, after-top, Floors, AboveFloors}
 use Rattle.closure.specs.Steps.{Fallen, Closed}
 
 -- The entries W after s stops, from the entries D, with none below its floor so far.
 pub record Closing (n : ℕ) (D W : Matrix) (s : ℕ) : Type 0 where
-  pub kept : Kept n D s
+  pub kept : AboveFloors n D s
   pub entries : Everywhere n (λ i j. W i j ≡ after n D s i j)
 
 -- The entries R are W after the stop k.

@@ -14,7 +14,7 @@ use Rattle.closure.specs.Cases.{by-eq}
 use Rattle.closure.specs.Signed.{bias, lower, raise-parts}
 use Rattle.closure.specs.Matrix.{Matrix, floor, Everywhere, floor-same, floor-other}
 use Rattle.closure.specs.Start.{unused, ruleAt, start, started}
-use Rattle.closure.specs.Stops.{after, Kept, Working, working-sound}
+use Rattle.closure.specs.Stops.{after, AboveFloors, Working, working-sound}
 
 -- The entries D after all stops.
 module _ (k : Ticket) (valid : Valid k) (D : Matrix) (h : Working k (start (k .horizon) (k .rules)) (events k + 1) D) where
@@ -58,7 +58,7 @@ module _ (k : Ticket) (valid : Valid k) (D : Matrix) (h : Working k (start (k .h
 
 module _ (k : Ticket) (valid : Valid k) where
   -- an entry below its floor rules out every schedule
-  pub no-schedule : (s : ℕ) → s ≤ events k → Kept (events k) (start (k .horizon) (k .rules)) s → (i j : ℕ) → i ≤ events k → j ≤ events k
+  pub no-schedule : (s : ℕ) → s ≤ events k → AboveFloors (events k) (start (k .horizon) (k .rules)) s → (i j : ℕ) → i ≤ events k → j ≤ events k
       → after (events k) (start (k .horizon) (k .rules)) (suc s) i j < floor i j → consistent k ≡ false
   no-schedule s ls kept i j li lj low =
       T-false (consistent k) (not-T (consistent k) (λ t.

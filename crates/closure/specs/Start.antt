@@ -47,7 +47,7 @@ abbrev pub Sound : Ticket → Matrix → Type 0
 Sound k D = (ts : List ℕ) → Schedule k ts → Everywhere (events k) (λ i j. time ts j + bias ≤ time ts i + D i j)
 
 -- What holds of the entries with the first e rules.
-pub record Started (k : Ticket) (e : ℕ) (D : Matrix) : Type 0 where
+pub record WithRules (k : Ticket) (e : ℕ) (D : Matrix) : Type 0 where
   pub sound : Sound k D
   pub floors : Everywhere (events k) (λ i j. floor i j ≤ D i j)
   pub top : Everywhere (events k) (λ i j. D i j ≤ none)
@@ -89,7 +89,7 @@ plain-cases h i j f g u v =
 plain-top : (h i j : ℕ) → h ≤ 1000000 → plain h i j ≤ none
 plain-top h i j l = plain-cases h i j (λ e q. omega arith) (λ a e q. omega arith) (λ a e q. omega arith) (λ a q. omega arith)
 
-plain-started : (k : Ticket) → Valid k → Started k 0 (plain (k .horizon))
+plain-started : (k : Ticket) → Valid k → WithRules k 0 (plain (k .horizon))
 plain-started k valid =
     let h = k .horizon in
     let small = valid .horizon-limit in
@@ -137,8 +137,8 @@ weight-cases r i j f g =
     (λ h. g (weight-from r i j h))
 
 -- One rule more.
-module _ (k : Ticket) (valid : Valid k) (e : ℕ) (less : e < length (k .rules)) (D : Matrix) (h : Started k e D) where
-  rule-started : Started k (suc e) (λ i j. min (D i j) (weight (ruleAt (k .rules) e) i j))
+module _ (k : Ticket) (valid : Valid k) (e : ℕ) (less : e < length (k .rules)) (D : Matrix) (h : WithRules k e D) where
+  rule-started : WithRules k (suc e) (λ i j. min (D i j) (weight (ruleAt (k .rules) e) i j))
   rule-started =
       let r = ruleAt (k .rules) e in
       let ok = All-below (ValidRule (events k)) unused (k .rules) (valid .rules-valid) e less in
@@ -182,10 +182,10 @@ ruled-top h rules small zero i j = plain-top h i j small
 ruled-top h rules small (suc e) i j = omega (arith, ruled-top h rules small e i j)
 
 module _ (k : Ticket) (valid : Valid k) where
-  ruled-started : (e : ℕ) → e ≤ length (k .rules) → Started k e (ruled (k .horizon) (k .rules) e)
+  ruled-started : (e : ℕ) → e ≤ length (k .rules) → WithRules k e (ruled (k .horizon) (k .rules) e)
   unfolding ruled
   ruled-started zero l = plain-started k valid
   ruled-started (suc e) l = rule-started k valid e (omega arith) (ruled (k .horizon) (k .rules) e) (ruled-started e (omega arith))
 
-  pub started : Started k (length (k .rules)) (start (k .horizon) (k .rules))
+  pub started : WithRules k (length (k .rules)) (start (k .horizon) (k .rules))
   started = ruled-started (length (k .rules)) (omega arith)

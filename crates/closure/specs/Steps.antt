@@ -8,7 +8,7 @@ use lib.IntN.{ℤ, pos}
 use lib.ListN.{length, getD, set}
 use Rattle.closure.specs.Signed.{lower}
 use Rattle.closure.specs.Matrix.{Matrix, floor, Everywhere}
-use Rattle.closure.specs.Stops.{after, Floors, Kept}
+use Rattle.closure.specs.Stops.{after, Floors, AboveFloors}
 
 -- Row i, column j of a table of n + 1 columns.
 abbrev pub cell : ℕ → List ℤ → ℕ → ℕ → ℤ
@@ -34,12 +34,12 @@ pub record Checked (n : ℕ) (D : Matrix) (r : Bool) : Type 0 where
 pub record Stopped (n : ℕ) (D : Matrix) : Type 0 where
   pub stop : ℕ
   pub stop-in : stop ≤ n
-  pub before : Kept n D stop
+  pub before : AboveFloors n D stop
   pub fallen : Fallen n (after n D (suc stop))
 
 -- All stops were taken and the entries are R, or an entry fell below its floor on the way.
 pub record Closed (n : ℕ) (D R : Matrix) (r : Bool) : Type 0 where
-  pub kept : r ≡ true → Kept n D (n + 1)
+  pub kept : r ≡ true → AboveFloors n D (n + 1)
   pub entries : r ≡ true → Everywhere n (λ i j. R i j ≡ after n D (n + 1) i j)
   pub stopped : r ≡ false → Stopped n D
 

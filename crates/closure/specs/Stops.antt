@@ -135,8 +135,8 @@ module _ (k : Ticket) (S : Matrix) (s : ℕ) (few : s ≤ 40) (fit : s ≤ event
       }
 
 -- After each of the first s stops no entry is below its floor.
-abbrev pub Kept : ℕ → Matrix → ℕ → Type 0
-Kept n D s = (r : ℕ) → r ≤ s → Floors n (after n D r)
+abbrev pub AboveFloors : ℕ → Matrix → ℕ → Type 0
+AboveFloors n D s = (r : ℕ) → r ≤ s → Floors n (after n D r)
 
 module _ (k : Ticket) (valid : Valid k) where
   working-none : Working k (start (k .horizon) (k .rules)) 0 (start (k .horizon) (k .rules))
@@ -153,7 +153,7 @@ module _ (k : Ticket) (valid : Valid k) where
         triangle = λ p lk late. absurd (omega arith);
       }
 
-  pub working : (s : ℕ) → s ≤ events k + 1 → Kept (events k) (start (k .horizon) (k .rules)) s
+  pub working : (s : ℕ) → s ≤ events k + 1 → AboveFloors (events k) (start (k .horizon) (k .rules)) s
       → Working k (start (k .horizon) (k .rules)) s (after (events k) (start (k .horizon) (k .rules)) s)
   unfolding after
   working zero l kept = working-none
@@ -163,7 +163,7 @@ module _ (k : Ticket) (valid : Valid k) where
       (working s (omega arith) (λ r p. kept r (omega arith)))
       (kept (suc s) (omega arith))
 
-  pub working-sound : (s : ℕ) → s ≤ events k → Kept (events k) (start (k .horizon) (k .rules)) s → Sound k (after (events k) (start (k .horizon) (k .rules)) (suc s))
+  pub working-sound : (s : ℕ) → s ≤ events k → AboveFloors (events k) (start (k .horizon) (k .rules)) s → Sound k (after (events k) (start (k .horizon) (k .rules)) (suc s))
   unfolding after
   working-sound s l kept =
       let few = valid .events-limit in

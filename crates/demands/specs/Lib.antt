@@ -1,4 +1,4 @@
--- What crate demands rests on. To believe its contracts read Rules (Small, Tests, `Obeyed`) and Network (Order, Ruled, `Built`, Limits), and what crate
+-- What crate demands rests on. To believe its contracts read Rules (SmallRule, Tests, `Obeyed`) and Network (Order, Ruled, `Built`, Limits), and what crate
 -- network says of stored edges (Edges); the rest are laws.
 -- Rules .ends-obeyed, obeyed-ends: windows within the horizon are fit exactly when their potential obeys the rules.
 -- Network .feasible-meeting, meeting-feasible: a potential is feasible exactly when it lies within the boxes, in order, and obeys the rules.

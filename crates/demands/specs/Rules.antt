@@ -24,7 +24,7 @@ use Rattle.potentials.specs.Nodes.{closeNode, close-most, potentialOf, potentia
 use Rattle.demands.specs.Cost.{bound-fits}
 
 -- a rule that a network of n events can hold
-pub record Small (n from to : ℕ) (bound : ℤ) : Type 0 where
+pub record SmallRule (n from to : ℕ) (bound : ℤ) : Type 0 where
   pub from-point : from ≤ n
   pub to-point : to ≤ n
   pub high : above bound ≤ 1000000
@@ -53,7 +53,7 @@ unfolding biased
 biased-most z l = omega arith
 
 -- what is read of a rule in arrays
-pub given-small : {t : Ticket} → Given t → (j : ℕ) → j < t .rules → Small (t .events) (at (t .from) j) (at (t .to) j) (getD (t .bound) j (pos 0))
+pub given-small : {t : Ticket} → Given t → (j : ℕ) → j < t .rules → SmallRule (t .events) (at (t .from) j) (at (t .to) j) (getD (t .bound) j (pos 0))
 given-small G j l = record { from-point = G .from-point j l; to-point = G .to-point j l; high = G .high j l; deep = G .deep j l }
 
 pub given-bound : {t : Ticket} → Given t → (j : ℕ) → j < t .rules → toZ w32 (ofZ w32 (getD (t .bound) j (pos 0))) ≡ getD (t .bound) j (pos 0)

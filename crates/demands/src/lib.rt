@@ -10,7 +10,7 @@ ghost use Rattle.network.specs.Stored.{at};
 ghost use Rattle.network.specs.Edges.{Extends, Put};
 ghost use Rattle.potentials.specs.Arrays.{Given};
 ghost use Rattle.potentials.specs.Nodes.{closeNode};
-ghost use Rattle.demands.specs.Rules.{Small, Tests, Obeyed};
+ghost use Rattle.demands.specs.Rules.{SmallRule, Tests, Obeyed};
 ghost use Rattle.demands.specs.Network.{Order, Built, Limits};
 use network::BIAS;
 
@@ -44,7 +44,7 @@ fn close_node(n: usize, point: usize) -> usize
 
 // Whether a rule holds of the times of nodes, from the node of `from` to the close of `to`.
 fn holds(pot: &[u32; 81], events: usize, n: usize, from: u8, to: u8, bound: i32) -> bool
-    requires { ⌜ Small events from to bound ⌝ }
+    requires { ⌜ SmallRule events from to bound ⌝ }
     requires { ⌜ (events ≤ 40) × (n ≤ events) × ((v : ℕ) → v ≤ n + events → at (now pot) v ≤ 1000000) ⌝ }
     ensures { λ r. ⌜ Tests r (at (now (pot .entry)) (closeNode n to) + 1000000 ≤ at (now (pot .entry)) from + biased bound) ⌝ }
 {
@@ -92,7 +92,7 @@ fn order(net: &mut [u32], n: usize)
 
 // Store the rule 'from to: bound' as edge e of the window network.
 fn put_rule(net: &mut [u32], e: usize, n: usize, from: u8, to: u8, bound: i32)
-    requires { ⌜ Small n from to bound ⌝ }
+    requires { ⌜ SmallRule n from to bound ⌝ }
     requires { ⌜ (n ≤ 40) × (4 * e + 3 < length (now net)) ⌝ }
     ensures { λ _. ⌜ Put (now (net .entry)) (now (net .exit)) e from (closeNode n to) (biased bound) ⌝ }
 {

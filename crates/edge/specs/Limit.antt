@@ -29,7 +29,7 @@ pub node-small : {net : List ℕ} {m nodes v : ℕ} → Network net m nodes → 
 node-small N l = omega (arith, N .few)
 
 -- where edge e stands in the list, and its ends
-pub record Place (net : List ℕ) (e : ℕ) : Type 0 where
+pub record EdgePlace (net : List ℕ) (e : ℕ) : Type 0 where
   pub first : 4 * e < length net
   pub second : 4 * e + 1 < length net
   pub fourth : 4 * e + 3 < length net
@@ -39,7 +39,7 @@ pub record Place (net : List ℕ) (e : ℕ) : Type 0 where
   pub tail : tailOf net e < 81
   pub head : headOf net e < 81
 
-pub edge-place : {net : List ℕ} {m nodes : ℕ} → Network net m nodes → (e : ℕ) → e < m → Place net e
+pub edge-place : {net : List ℕ} {m nodes : ℕ} → Network net m nodes → (e : ℕ) → e < m → EdgePlace net e
 edge-place {net} {m} {nodes} N e le =
     record {
       first = omega (arith, N .size);

@@ -12,7 +12,7 @@ use Rattle.network.specs.Index.{Index}
 use Rattle.search.specs.Tree.{TightLinks, Reached}
 use Rattle.network.specs.Sum.{whenEq}
 use Rattle.network.specs.Flow.{outOf, into}
-use Rattle.path.specs.Push.{Small, Pushed, Loaded, Sends}
+use Rattle.path.specs.Push.{SmallFlow, Pushed, Loaded, Sends}
 
 -- After a push along links with no slack the potential still fits, and the network is a network.
 module _ {net net' : List ℕ} {m nodes : ℕ} {stamp via : List ℕ} {root start f cur : ℕ} (N : Network net m nodes)
@@ -41,7 +41,7 @@ pub record Ready (net : List ℕ) (m nodes : ℕ) (tails heads pot : List ℕ) (
   pub by-tail : Index net m (2 * nodes - 2) 0 tails
   pub by-head : Index net m (2 * nodes - 2) 1 heads
   pub inside : root < nodes
-  pub small : Small net m
+  pub small : SmallFlow net m
   pub long : length supply ≡ 81
   pub left : (v : ℕ) × (v < nodes) × (0 < at supply v)
   pub some : 0 < want

@@ -9,7 +9,7 @@ ghost use Rattle.network.specs.Stored.{Beyond, flowOf, Network, Potential};
 ghost use Rattle.network.specs.Index.{Index};
 ghost use Rattle.network.specs.Grow.{Flowless};
 ghost use Rattle.flow.specs.Augment.{Ready, Augmented};
-ghost use Rattle.flow.specs.Solve.{Spans, Weights, Carries, Started, Sent, Lowered, Solved};
+ghost use Rattle.flow.specs.Solve.{Spans, Weights, Carries, FirstFlow, Sent, Lowered, Solved};
 
 // Push flow to root, at most want units of it, from a node with some supply, along edges with no slack. The result is how much; the supply falls by it.
 fn augment(
@@ -46,7 +46,7 @@ fn start(
 )
     requires { ⌜ Flowless (now net) m (2 * n + 1) (now pot) ⌝ }
     requires { ⌜ Weights n (now supply) × (now demand ≡ now supply) ⌝ }
-    ensures { λ _. ⌜ Started (now (net .entry)) (now (net .exit)) m n (now (pot .entry)) (now (supply .entry)) (now (supply .exit)) (now (demand .exit)) ⌝ }
+    ensures { λ _. ⌜ FirstFlow (now (net .entry)) (now (net .exit)) m n (now (pot .entry)) (now (supply .entry)) (now (supply .exit)) (now (demand .exit)) ⌝ }
 {
     let mut e = 4 * n;
     while e < m {

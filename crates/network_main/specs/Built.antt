@@ -10,7 +10,7 @@ use lib.Seq.{getD-set-same, getD-set-other}
 use Rattle.network.specs.Stored.{at}
 use Rattle.network.specs.Edges.{EdgeIs, extends-edge, Boxes}
 use Rattle.network.specs.Grow.{Flowless, Growing, boxes-growing}
-use Rattle.admit.specs.Admit.{Fits, Admits}
+use Rattle.admit.specs.Admit.{Admissible, Admits}
 use Rattle.flow.specs.Solve.{Spans}
 
 -- the bounds of the nodes from 1 on and below k
@@ -75,7 +75,7 @@ pub record Ends (n k a b c : ℕ) : Type 0 where
 
 -- what `admit` asks of it
 pub ends-fit : {net pot tails heads : List ℕ} {n k a b c : ℕ} (m : ℕ) → (n ≤ 40) × (m ≤ 256) → k < n + m → Built net n k pot tails heads → Ends n k a b c
-    → Growing net (4 * n + k) (2 * n + 1) pot tails heads × Fits net (4 * n + k) (2 * n + 1) a b c
+    → Growing net (4 * n + k) (2 * n + 1) pot tails heads × Admissible net (4 * n + k) (2 * n + 1) a b c
 ends-fit m few below B E = (
   B .growing,
   record {

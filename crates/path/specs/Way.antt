@@ -9,7 +9,7 @@ use borrow.Author.Count.{below-more}
 use Rattle.network.specs.Stored.{at, tailOf, headOf, flowOf, Network}
 use Rattle.search.specs.Tree.{Link, Linked}
 use Rattle.network.specs.Sum.{whenEq, when-is, whenEq-other}
-use Rattle.edge.specs.Limit.{Place, edge-place}
+use Rattle.edge.specs.Limit.{EdgePlace, edge-place}
 
 -- r is the other end of edge e, seen from cur
 pub record Across (net : List ℕ) (e cur r : ℕ) : Type 0 where
@@ -17,8 +17,8 @@ pub record Across (net : List ℕ) (e cur r : ℕ) : Type 0 where
   pub back : (tailOf net e ≡ cur → ⊥) → r ≡ tailOf net e
 
 -- edge e has room for f units from cur, and for r of f units
-abbrev pub Fits : List ℕ → ℕ → ℕ → ℕ → Type 0
-Fits net e cur f = (tailOf net e ≡ cur → ⊥) → f ≤ flowOf net e
+abbrev pub HasRoom : List ℕ → ℕ → ℕ → ℕ → Type 0
+HasRoom net e cur f = (tailOf net e ≡ cur → ⊥) → f ≤ flowOf net e
 
 pub record Bound (net : List ℕ) (e cur f r : ℕ) : Type 0 where
   pub forth : tailOf net e ≡ cur → r ≡ f
@@ -47,7 +47,7 @@ hops net via start (suc k) = hop net via (hops net via start k)
 -- k links lead from start to cur, and have room for f units
 pub record Way (net via : List ℕ) (start f k cur : ℕ) : Type 0 where
   pub here : hops net via start k ≡ cur
-  pub fits : (j : ℕ) → j < k → Fits net (at via (hops net via start j)) (hops net via start j) f
+  pub fits : (j : ℕ) → j < k → HasRoom net (at via (hops net via start j)) (hops net via start j) f
 
 hops-more : (net via : List ℕ) (start k : ℕ) {cur : ℕ} (r : ℕ) → hops net via start k ≡ cur → Across net (at via cur) cur r → hops net via start (k + 1) ≡ r
 unfolding hops
@@ -59,12 +59,12 @@ way-none : (net via : List ℕ) (start f : ℕ) → Way net via start f 0 start
 unfolding hops
 way-none net via start f = record { here = refl; fits = λ j l. absurd (omega arith) }
 
-way-more : {net via : List ℕ} {start f k cur : ℕ} (f' r : ℕ) → Way net via start f k cur → Across net (at via cur) cur r → f' ≤ f → Fits net (at via cur) cur f'
+way-more : {net via : List ℕ} {start f k cur : ℕ} (f' r : ℕ) → Way net via start f k cur → Across net (at via cur) cur r → f' ≤ f → HasRoom net (at via cur) cur f'
     → Way net via start f' (k + 1) r
 way-more {net} {via} {start} {f} {k} {cur} f' r W A le here =
     record {
       here = hops-more net via start k r (W .here) A;
-      fits = below-more (λ j. Fits net (at via (hops net via start j)) (hops net via start j) f') k
+      fits = below-more (λ j. HasRoom net (at via (hops net via start j)) (hops net via start j) f') k
           (λ j l q. omega (arith, W .fits j l q))
           (rw (W .here) here);
     }
@@ -90,14 +90,14 @@ module _ {net : List ℕ} {m nodes : ℕ} {stamp via : List ℕ} {root start wan
   link : Link net m stamp cur (at via cur)
   link = linked cur (R .inside) ne (R .reached)
 
-  pub roaming-place : Place net (at via cur)
+  pub roaming-place : EdgePlace net (at via cur)
   roaming-place = edge-place N (at via cur) (link .edge)
 
   pub roaming-more : {f' r : ℕ} → Bound net (at via cur) cur f f' → Across net (at via cur) cur r
       → Roaming net nodes stamp via start want f' r × (at stamp r < at stamp cur)
   roaming-more {f'} {r} B A = by-cases (ℕ-discrete (tailOf net (at via cur)) cur) forth back
     where
-      next : r < nodes → 0 < at stamp r → 0 < f' → f' ≤ f → Fits net (at via cur) cur f' → Roaming net nodes stamp via start want f' r
+      next : r < nodes → 0 < at stamp r → 0 < f' → f' ≤ f → HasRoom net (at via cur) cur f' → Roaming net nodes stamp via start want f' r
       next l p s le fits =
           record { inside = l; reached = p; some = s; most = omega (arith, R .most); links = R .links + 1; way = way-more f' r (R .way) A le fits }
 
@@ -149,7 +149,7 @@ module _ {net via : List ℕ} {root f cur : ℕ} (A : Along net via root f cur) 
       by-cases (decLt (A .done) (A .links)) (λ l. l)
       (λ n. let all : A .done ≡ A .links = omega (arith, A .left) in absurd (ne (sym (A .here) ∙ ap (hops net via (A .start)) all ∙ A .way .here)))
 
-  pub along-fits : Fits net (at via cur) cur f
+  pub along-fits : HasRoom net (at via cur) cur f
   along-fits = rw (A .here) at (A .way .fits (A .done) more)
 
   pub along-more : {r : ℕ} → Across net (at via cur) cur r → Along net via root f r

@@ -22,7 +22,7 @@ use Rattle.causes.specs.Zeroed.{past, zeroed-rest}
 use Rattle.runs.specs.Calls.{Outcome, zeroed, cleared, withoutRoom, answered, afterReading, planning, committing}
 use Rattle.runs.specs.Calls.{enough-room, no-room-out, planning-short, planning-read, committing-short, committing-read}
 use Rattle.ticket.specs.Agree.{content-stored}
-use Rattle.causes.specs.Structs.{state-of, Kept, kept-read}
+use Rattle.causes.specs.Structs.{state-of, Canonical, canonical-read}
 use Rattle.plan.specs.Returned.{returned}
 use Rattle.plan.specs.declared.Answer.{Answer}
 
@@ -106,8 +106,8 @@ module _ (bytes : List ℕ) {x : ReadRecord} (e : x ≡ wholeRecord bytes) (deci
     readable : Readable (read-state .0)
     readable = written-read-state bytes (read-state .0) (read-state .1) b (read-state .2) .1
 
-    pub record-read : Kept (x .plan)
-    record-read = subst Kept (sym struct-state) (kept-read (read-state .0) readable)
+    pub record-read : Canonical (x .plan)
+    record-read = subst Canonical (sym struct-state) (canonical-read (read-state .0) readable)
 
     pub record-meets : (out : List ℕ) {scratch : List ℕ} {a : Answer} {out′ scratch′ : List ℕ} → Meets (answered out scratch (decide (stateOf (x .plan)))) scratch a out′ scratch′
         → Meets (afterReading out scratch decide (wholly readState bytes)) scratch a out′ scratch′

@@ -20,9 +20,9 @@ use Rattle.ticket.specs.Writing.{content, stateOf}
 use Rattle.ticket.specs.declared.Ticket.{Ticket as Struct}
 use Rattle.ticket.specs.declared.Record.{Record}
 use Rattle.potentials.specs.Arrays.{in-events, in-rules, Within}
-use Rattle.windows.specs.Promises.{stateIn, Room, Planned, Committed}
+use Rattle.windows.specs.Promises.{stateIn, Workspace, Planned, Committed}
 use Rattle.windows.specs.Settle.{Asked}
-use Rattle.causes.specs.Structs.{Past, zeros-past, within-past, set-past, Kept, kept-few}
+use Rattle.causes.specs.Structs.{Past, zeros-past, within-past, set-past, Canonical, canonical-few}
 
 -- ---- what an accepted call leaves is readable
 
@@ -35,7 +35,7 @@ committed-readable s ok c z next e =
 
 -- ---- room for the edges
 
-edges-room : (t : Struct) (net opens closes : List ℕ) → Valid (content t) → length net ≡ 1824 → length opens ≡ 40 → length closes ≡ 40 → Room t net opens closes
+edges-room : (t : Struct) (net opens closes : List ℕ) → Valid (content t) → length net ≡ 1824 → length opens ≡ 40 → length closes ≡ 40 → Workspace t net opens closes
 edges-room t net opens closes v l o c = record {
   size = omega (arith, v .events-limit, v .rules-limit, in-events t, in-rules t);
   opens-long = o;
@@ -44,14 +44,14 @@ edges-room t net opens closes v l o c = record {
 
 -- ---- a commitment that is accepted
 
-module _ (r : Record) (ok : Kept r) (event opens closes : ℕ) where
+module _ (r : Record) (ok : Canonical r) (event opens closes : ℕ) where
   -- the number of accepted commitments does not count
   cause-count : (m : ℕ) → cause (stateIn (r .ticket) (r .flags) (r .opens) (r .closes) m) (asking event opens closes) ≡ cause (stateOf r) (asking event opens closes)
   unfolding cause
   cause-count m = refl
 
   pub commit-asked : {net : List ℕ} → length net ≡ 1824 → cause (stateOf r) (asking event opens closes) ≡ 0
-      → Room (r .ticket) net (r .opens) (r .closes) × Asked (r .ticket) (r .flags) (r .opens) (r .closes) event opens closes
+      → Workspace (r .ticket) net (r .opens) (r .closes) × Asked (r .ticket) (r .flags) (r .opens) (r .closes) event opens closes
   commit-asked {net} l z = (
     edges-room (r .ticket) net (r .opens) (r .closes) (ok .readable .valid) l (ok .opens-past .long) (ok .closes-past .long),
     record {
@@ -64,11 +64,11 @@ module _ (r : Record) (ok : Kept r) (event opens closes : ℕ) where
   )
 
   -- what a commitment leaves in the arrays is kept
-  pub kept-committed : {flags′ opens′ closes′ : List ℕ} → cause (stateOf r) (asking event opens closes) ≡ 0
+  pub canonical-committed : {flags′ opens′ closes′ : List ℕ} → cause (stateOf r) (asking event opens closes) ≡ 0
       → Committed (r .ticket) (r .flags) (r .opens) (r .closes) flags′ opens′ closes′ event opens closes
-      → Kept (record { ticket = r .ticket; flags = flags′; opens = opens′; closes = closes′; number = r .number + 1 })
+      → Canonical (record { ticket = r .ticket; flags = flags′; opens = opens′; closes = closes′; number = r .number + 1 })
       × (commit (stateOf r) (asking event opens closes) ≡ accepted (stateIn (r .ticket) flags′ opens′ closes′ (r .number + 1)))
-  kept-committed {flags′} {opens′} {closes′} z C = (
+  canonical-committed {flags′} {opens′} {closes′} z C = (
     record {
       flags-past = subst (Past (r .ticket .events)) (sym (C .flags-are)) (set-past (event - 1) 1 inside (ok .flags-past));
       opens-past = within-past (ok .opens-past) (C .opens-past);
@@ -89,13 +89,13 @@ module _ (r : Record) (ok : Kept r) (event opens closes : ℕ) where
       decided = C .answer (r .number) ∙ ap (λ m. accepted (stateIn (r .ticket) flags′ opens′ closes′ m)) (sym (add-one (r .number)))
 
       set-bit : (i : ℕ) → Dec (i ≡ event - 1) → at (set (r .flags) (event - 1) 1) i ≤ 1
-      set-bit i (yes q) = omega (arith, ap (at (set (r .flags) (event - 1) 1)) q, getD-set-same (r .flags) (event - 1) 1 0 (omega (arith, inside, kept-few r ok, ok .flags-past .long)))
+      set-bit i (yes q) = omega (arith, ap (at (set (r .flags) (event - 1) 1)) q, getD-set-same (r .flags) (event - 1) 1 0 (omega (arith, inside, canonical-few r ok, ok .flags-past .long)))
       set-bit i (no n) = omega (arith, getD-set-other (r .flags) (event - 1) i 1 0 n, ok .bits i)
 
 -- ---- planning
 
 module _ {t : Struct} where
-  pub plan-asked : {net opens closes : List ℕ} → Valid (content t) → length net ≡ 1824 → length opens ≡ 40 → length closes ≡ 40 → Valid (content t) × Room t net opens closes
+  pub plan-asked : {net opens closes : List ℕ} → Valid (content t) → length net ≡ 1824 → length opens ≡ 40 → length closes ≡ 40 → Valid (content t) × Workspace t net opens closes
   plan-asked {net} {opens} {closes} v l o c = (v, edges-room t net opens closes v l o c)
 
   module _ {opens closes opens′ closes′ : List ℕ} {b : Bool} (P : Planned t opens closes opens′ closes′ b) where
@@ -105,9 +105,9 @@ module _ {t : Struct} where
     pub planned-some : b ≡ true → plan (content t) ≡ accepted (stateIn t (replicate 40 0) opens′ closes′ 0)
     planned-some q = P .answer ∙ ap (λ x. cond x (accepted (stateIn t (replicate 40 0) opens′ closes′ 0)) (refused 9)) q
 
-    pub kept-planned : Valid (content t) → opens ≡ replicate 40 0 → closes ≡ replicate 40 0 → b ≡ true
-        → Kept (record { ticket = t; flags = replicate 40 0; opens = opens′; closes = closes′; number = 0 })
-    kept-planned v zo zc q = record {
+    pub canonical-planned : Valid (content t) → opens ≡ replicate 40 0 → closes ≡ replicate 40 0 → b ≡ true
+        → Canonical (record { ticket = t; flags = replicate 40 0; opens = opens′; closes = closes′; number = 0 })
+    canonical-planned v zo zc q = record {
       flags-past = zeros-past (t .events);
       opens-past = grown opens′ zo (P .opens-past);
       closes-past = grown closes′ zc (P .closes-past);

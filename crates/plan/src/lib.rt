@@ -15,7 +15,7 @@ ghost use Rattle.ticket.specs.Writing.{content, stateOf, over};
 ghost use Rattle.causes.specs.Zeroed.{past};
 ghost use Rattle.runs.specs.Calls.{answered, afterReading, planning, committing};
 ghost use Rattle.plan.specs.Returned.{returned};
-ghost use Rattle.causes.specs.Structs.{Kept};
+ghost use Rattle.causes.specs.Structs.{Canonical};
 ghost use Rattle.plan.specs.Meets.{Meets};
 
 // The number of the refusal, 0 when accepted; the record's length and its total width, 0 when refused.
@@ -37,7 +37,7 @@ fn refusal(number: u32) -> Answer
 
 // Write the record into the output.
 fn write_out(r: ticket::Record, out: &mut [u8]) -> Answer
-    requires { ⌜ Kept r × (1948 ≤ length (now out)) ⌝ }
+    requires { ⌜ Canonical r × (1948 ≤ length (now out)) ⌝ }
     ensures { λ a. ⌜ a ≡ record {
       number = 0;
       length = length (writeState (stateOf r));
@@ -117,9 +117,9 @@ fn commit_event(
     closes: u32,
     scratch: &mut [u32],
 ) -> ticket::Record
-    requires { ⌜ Kept r × (cause (stateOf r) (asking event opens closes) ≡ 0) ⌝ }
+    requires { ⌜ Canonical r × (cause (stateOf r) (asking event opens closes) ≡ 0) ⌝ }
     requires { ⌜ 1824 ≤ length (now scratch) ⌝ }
-    ensures { λ q. ⌜ Kept q × (commit (stateOf r) (asking event opens closes) ≡ accepted (stateOf q)) ⌝ }
+    ensures { λ q. ⌜ Canonical q × (commit (stateOf r) (asking event opens closes) ≡ accepted (stateOf q)) ⌝ }
     ensures { λ q. ⌜ past 8192 (now (scratch .exit)) ≡ past 8192 (now (scratch .entry)) ⌝ }
 {
     let t = r.ticket;
@@ -154,7 +154,7 @@ fn commit_record(
     out: &mut [u8],
     scratch: &mut [u32],
 ) -> Answer
-    requires { ⌜ Kept r × (1948 ≤ length (now out)) × (1824 ≤ length (now scratch)) ⌝ }
+    requires { ⌜ Canonical r × (1948 ≤ length (now out)) × (1824 ≤ length (now scratch)) ⌝ }
     ensures { λ a.
         ⌜ Meets (answered (now (out .entry)) (now (scratch .entry)) (commit (stateOf r) (asking event opens closes)))
         (now (scratch .entry)) a (now (out .exit)) (now (scratch .exit)) ⌝ }

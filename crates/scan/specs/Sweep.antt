@@ -53,8 +53,8 @@ module _ {net : List ℕ} {m nodes : ℕ} {pot stamp dist order : List ℕ} {t :
       }
 
 -- the edges below n
-abbrev pub Below : ℕ → ℕ → Type 0
-Below n e = e < n
+abbrev pub EdgesBelow : ℕ → ℕ → Type 0
+EdgesBelow n e = e < n
 
 -- one more edge of a list
 pub list-more : {net : List ℕ} {m nodes : ℕ} {pot stamp dist order : List ℕ} {t : ℕ} {stamp₁ via₁ dist₁ order₁ key₁ stamp₂ via₂ dist₂ order₂ key₂ : List ℕ}
@@ -106,7 +106,7 @@ module _ {net : List ℕ} {m nodes : ℕ} (N : Network net m nodes) where
       (x .2 .ends)))
 
   -- what is relaxed in the three sweeps is all
-  pub scan-all : (pot dist : List ℕ) (w e : ℕ) → (Below (2 * nodes - 2) e → Relaxed net pot dist w e)
+  pub scan-all : (pot dist : List ℕ) (w e : ℕ) → (EdgesBelow (2 * nodes - 2) e → Relaxed net pot dist w e)
       → (Listed net (2 * nodes - 2) 1 w e → Relaxed net pot dist w e) → (Listed net (2 * nodes - 2) 0 w e → Relaxed net pot dist w e) → Relaxed net pot dist w e
   scan-all pot dist w e box heads tails =
       by-cases (decLt e (2 * nodes - 2))
@@ -128,7 +128,7 @@ module _ {net : List ℕ} {m nodes : ℕ} {pot stamp via dist order key : List �
 
   pub node-swept : {stamp' via' dist' order' key' : List ℕ} {r : ℕ}
       → Boxed net pot stamp via dist order key stamp' via' dist' order' key' w 0 (2 * w - 1) (2 * w - 1 - 1) d t r
-      → Swept net m nodes pot stamp dist order t stamp' via' dist' order' key' root r s d w (Below (2 * nodes - 2))
+      → Swept net m nodes pot stamp dist order t stamp' via' dist' order' key' root r s d w (EdgesBelow (2 * nodes - 2))
   node-swept B =
       let h = visit-pair S w sc (pair-node (S .network) w (sc .inside) p) B in
       record { onward = h .0; relaxed = λ e le l. box-all (S .network) w p (h .1) e l }
@@ -136,10 +136,10 @@ module _ {net : List ℕ} {m nodes : ℕ} {pot stamp via dist order key : List �
 -- the box edges of one more node
 box-more : {net : List ℕ} {m nodes : ℕ} {pot stamp dist order : List ℕ} {t : ℕ} {stamp₁ via₁ dist₁ order₁ key₁ stamp₂ via₂ dist₂ order₂ key₂ : List ℕ}
     {root t₁ t₂ s d w : ℕ} (v : ℕ) → Scans nodes stamp s w
-    → Swept net m nodes pot stamp dist order t stamp₁ via₁ dist₁ order₁ key₁ root t₁ s d w (Below (2 * v - 2))
+    → Swept net m nodes pot stamp dist order t stamp₁ via₁ dist₁ order₁ key₁ root t₁ s d w (EdgesBelow (2 * v - 2))
     → Onward net m nodes pot stamp₁ dist₁ order₁ t₁ stamp₂ via₂ dist₂ order₂ key₂ root t₂ s d
     → Relaxed net pot dist₂ w (2 * v - 1 - 1) × Relaxed net pot dist₂ w (2 * v - 1)
-    → Swept net m nodes pot stamp dist order t stamp₂ via₂ dist₂ order₂ key₂ root t₂ s d w (Below (2 * (v + 1) - 2))
+    → Swept net m nodes pot stamp dist order t stamp₂ via₂ dist₂ order₂ key₂ root t₂ s d w (EdgesBelow (2 * (v + 1) - 2))
 box-more {net = net} {pot = pot} {dist₂ = dist₂} {w = w} v sc A B r =
     swept-more sc A B (λ e le q old. by-cases (decLt e (2 * v - 2))
     old
@@ -149,7 +149,7 @@ box-more {net = net} {pot = pot} {dist₂ = dist₂} {w = w} v sc A B r =
 
 -- The box edges at the origin, those of the nodes below v visited.
 module _ {net : List ℕ} {m nodes : ℕ} {pot stamp dist order : List ℕ} {t : ℕ} {stamp₁ via₁ dist₁ order₁ key₁ : List ℕ} {root t₁ s d : ℕ} (v : ℕ)
-    (sc : Scans nodes stamp s 0) (A : Swept net m nodes pot stamp dist order t stamp₁ via₁ dist₁ order₁ key₁ root t₁ s d 0 (Below (2 * v - 2)))
+    (sc : Scans nodes stamp s 0) (A : Swept net m nodes pot stamp dist order t stamp₁ via₁ dist₁ order₁ key₁ root t₁ s d 0 (EdgesBelow (2 * v - 2)))
     (p : 0 < v) (lv : v < nodes) where
   S : Search net m nodes pot stamp₁ via₁ dist₁ order₁ key₁ root t₁ s d
   S = A .onward .search
@@ -161,7 +161,7 @@ module _ {net : List ℕ} {m nodes : ℕ} {pot stamp dist order : List ℕ} {t :
 
   pub origin-more : {stamp₂ via₂ dist₂ order₂ key₂ : List ℕ} {t₂ : ℕ}
       → Boxed net pot stamp₁ via₁ dist₁ order₁ key₁ stamp₂ via₂ dist₂ order₂ key₂ 0 v (2 * v - 1 - 1) (2 * v - 1) d t₁ t₂
-      → Swept net m nodes pot stamp dist order t stamp₂ via₂ dist₂ order₂ key₂ root t₂ s d 0 (Below (2 * (v + 1) - 2))
+      → Swept net m nodes pot stamp dist order t stamp₂ via₂ dist₂ order₂ key₂ root t₂ s d 0 (EdgesBelow (2 * (v + 1) - 2))
   origin-more B =
       let h = visit-pair S 0 (scans-still sc A) (pair-origin (S .network) v lv p) B in
       box-more v sc A (h .0) (h .1)
@@ -275,7 +275,7 @@ next-scans S lt = let q = S .queue _ lt in record { inside = q .0; stamped = q .
 pub scanned : {net : List ℕ} {m nodes : ℕ} {pot stamp via dist order key stamp₁ via₁ dist₁ order₁ key₁ : List ℕ}
     {stamp₂ via₂ dist₂ order₂ key₂ stamp₃ via₃ dist₃ order₃ key₃ : List ℕ}
     {root t t₁ t₂ t₃ s d : ℕ} → Search net m nodes pot stamp via dist order key root t s d → s < t
-    → Swept net m nodes pot stamp dist order t stamp₁ via₁ dist₁ order₁ key₁ root t₁ s d (at order s) (Below (2 * nodes - 2))
+    → Swept net m nodes pot stamp dist order t stamp₁ via₁ dist₁ order₁ key₁ root t₁ s d (at order s) (EdgesBelow (2 * nodes - 2))
     → Swept net m nodes pot stamp₁ dist₁ order₁ t₁ stamp₂ via₂ dist₂ order₂ key₂ root t₂ s d (at order s) (Listed net (2 * nodes - 2) 1 (at order s))
     → Swept net m nodes pot stamp₂ dist₂ order₂ t₂ stamp₃ via₃ dist₃ order₃ key₃ root t₃ s d (at order s) (Listed net (2 * nodes - 2) 0 (at order s))
     → Scanned net m nodes pot order t stamp₃ via₃ dist₃ order₃ key₃ root t₃ s d
@@ -283,7 +283,7 @@ scanned {net} {m} {nodes} {pot} {order = order} {dist₃ = dist₃} {order₃ = 
     let w = at order s in
     let sc = next-scans S lt in
     let heads = Listed net (2 * nodes - 2) 1 w in
-    let both = swept-more sc one {Q = λ e. Below (2 * nodes - 2) e ⊎ heads e} (two .onward)
+    let both = swept-more sc one {Q = λ e. EdgesBelow (2 * nodes - 2) e ⊎ heads e} (two .onward)
     (λ e le q old. ⊎-elim old (two .relaxed e le) q) in
     let all = swept-more sc both {Q = λ e. e < m} (three .onward)
     (λ e le q old. scan-all (S .network) pot dist₃ w e (λ p. old (inl p)) (λ p. old (inr p)) (three .relaxed e le)) in

@@ -5,7 +5,7 @@ ghost use Prim.Native.Nat.{_+_, _*_, _-_, _<_};
 ghost use Rattle.visit.specs.Search.{Search};
 ghost use Rattle.network.specs.Index.{Index, Listed};
 ghost use Rattle.visit.specs.Visit.{Scans};
-ghost use Rattle.scan.specs.Sweep.{Swept, Below, Scanned};
+ghost use Rattle.scan.specs.Sweep.{Swept, EdgesBelow, Scanned};
 
 // Visit the box edges of every node: the origin is scanned.
 fn scan_origin(
@@ -27,7 +27,7 @@ fn scan_origin(
     requires { ⌜ Scans nodes (now stamp) s 0 ⌝ }
     ensures { λ r.
         ⌜ Swept (now (net .entry)) m nodes (now (pot .entry)) (now (stamp .entry)) (now (dist .entry)) (now (order .entry)) t
-        (now (stamp .exit)) (now (via .exit)) (now (dist .exit)) (now (order .exit)) (now (key .exit)) root r s d 0 (Below (2 * nodes - 2)) ⌝ }
+        (now (stamp .exit)) (now (via .exit)) (now (dist .exit)) (now (order .exit)) (now (key .exit)) root r s d 0 (EdgesBelow (2 * nodes - 2)) ⌝ }
 {
     let mut r = t;
     let mut v = 1;
@@ -60,7 +60,7 @@ fn scan_box(
     requires { ⌜ Scans nodes (now stamp) s w ⌝ }
     ensures { λ r.
         ⌜ Swept (now (net .entry)) m nodes (now (pot .entry)) (now (stamp .entry)) (now (dist .entry)) (now (order .entry)) t
-        (now (stamp .exit)) (now (via .exit)) (now (dist .exit)) (now (order .exit)) (now (key .exit)) root r s d w (Below (2 * nodes - 2)) ⌝ }
+        (now (stamp .exit)) (now (via .exit)) (now (dist .exit)) (now (order .exit)) (now (key .exit)) root r s d w (EdgesBelow (2 * nodes - 2)) ⌝ }
 {
     if w == 0 {
         return scan_origin(

@@ -8,7 +8,7 @@ ghost use Rattle.temporal.specs.Bound.{biased};
 ghost use Rattle.network.specs.Grow.{Growing};
 ghost use Rattle.admit.specs.Admit.{Admits};
 ghost use Rattle.potentials.specs.Arrays.{Given};
-ghost use Rattle.demands.specs.Rules.{Small};
+ghost use Rattle.demands.specs.Rules.{SmallRule};
 ghost use Rattle.schedule.specs.Schedule.{Low, Tried, Decided};
 ghost use Rattle.schedule.specs.Relax.{HoldFrom, Raised};
 use network::BIAS;
@@ -16,7 +16,7 @@ use network::BIAS;
 // Raise the time of `from` to what the rule asks. 0: the rule held, 1: raised, 2: it cannot be raised so far.
 fn raise(times: &mut [u32; 81], n: usize, horizon: u32, from: u8, to: u8, bound: i32) -> u32
     requires { ⌜ Low n horizon (now times) ⌝ }
-    requires { ⌜ Small n from to bound ⌝ }
+    requires { ⌜ SmallRule n from to bound ⌝ }
     requires { ⌜ (n ≤ 40) × (horizon ≤ 1000000) ⌝ }
     ensures { λ _. ⌜ Low n horizon (now (times .exit)) ⌝ }
     ensures { λ r. ⌜ Raised (now (times .entry)) (now (times .exit)) from to bound r ⌝ }
@@ -87,7 +87,7 @@ fn admit_rule(
     bound: i32,
 ) -> bool
     requires { ⌜ Growing (now net) (2 * n + j) (n + 1) (now times) (now tails) (now heads) ⌝ }
-    requires { ⌜ Small n from to bound ⌝ }
+    requires { ⌜ SmallRule n from to bound ⌝ }
     requires { ⌜ (n ≤ 40) × (j < 256) × (4 * (2 * n + j) + 3 < length (now net)) ⌝ }
     ensures { λ r. ⌜ Admits (now (net .entry)) (now (net .exit)) (2 * n + j) (n + 1) (now (times .exit)) (now (tails .exit)) (now (heads .exit)) from to (biased bound) r ⌝ }
 {

@@ -17,7 +17,7 @@ abbrev pub Moved : List ℕ → List ℕ → List ℕ → ℕ → ℕ → Type 0
 Moved pot pot' dist d n = (v : ℕ) → v < n → at pot' v + min (at dist v) d ≡ at pot v + min (at dist 0) d
 
 -- the nodes below n have room to move
-pub record Room (pot dist : List ℕ) (d n : ℕ) : Type 0 where
+pub record Movable (pot dist : List ℕ) (d n : ℕ) : Type 0 where
   pub few : n ≤ 81
   pub long : length pot ≡ 81
   pub low : (v : ℕ) → v < n → min (at dist v) d ≤ at pot v + min (at dist 0) d
@@ -25,14 +25,14 @@ pub record Room (pot dist : List ℕ) (d n : ℕ) : Type 0 where
   pub small : d ≤ 2000000
 
 -- pot is pot₀ with the nodes below n moved
-pub record Shifted (pot₀ pot dist : List ℕ) (d n : ℕ) : Type 0 where
+pub record Lifted (pot₀ pot dist : List ℕ) (d n : ℕ) : Type 0 where
   pub long : length pot ≡ 81
   pub moved : Moved pot₀ pot dist d n
   pub rest : Beyond pot₀ pot n
 
-pub shifted-more : {pot₀ pot dist : List ℕ} {d n : ℕ} (x : ℕ) → Shifted pot₀ pot dist d n → n < 81
-    → x + min (at dist n) d ≡ at pot₀ n + min (at dist 0) d → Shifted pot₀ (set pot n x) dist d (n + 1)
-shifted-more {pot₀} {pot} {dist} {d} {n} x h lt e =
+pub lifted-more : {pot₀ pot dist : List ℕ} {d n : ℕ} (x : ℕ) → Lifted pot₀ pot dist d n → n < 81
+    → x + min (at dist n) d ≡ at pot₀ n + min (at dist 0) d → Lifted pot₀ (set pot n x) dist d (n + 1)
+lifted-more {pot₀} {pot} {dist} {d} {n} x h lt e =
     let long = h .long in
     record {
       long = simp length-set long;
@@ -71,7 +71,7 @@ module _ {net : List ℕ} {m nodes : ℕ} {pot stamp via dist order key : List �
       (λ l. omega (arith, S .back e le p l pf))
       (λ n. omega (arith, S .waiting (tailOf net e) (N .tails e le) (omega arith))))
 
-  pub search-room : Room pot dist d nodes
+  pub search-room : Movable pot dist d nodes
   search-room =
       record {
         few = N .few;

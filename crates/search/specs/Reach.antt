@@ -16,7 +16,7 @@ use Rattle.search.specs.Tree.{Reached}
 use Rattle.visit.specs.Search.{Search, search-start}
 use Rattle.search.specs.Nearest.{Nearest, keys-from, nearest-out, search-nearest}
 use Rattle.scan.specs.Sweep.{Scanned}
-use Rattle.search.specs.Raise.{Room, Moved, search-room, search-reached}
+use Rattle.search.specs.Raise.{Movable, Moved, search-room, search-reached}
 
 -- of the places from lo on and below hi, r is the last whose node has a goal; or r is hi, and none has
 pub record Goals (order goal : List ℕ) (lo hi r : ℕ) : Type 0 where
@@ -44,7 +44,7 @@ goals-found l p = record { found = λ _. p; none = λ le. absurd (omega arith) }
 
 -- how a search that came to the distance d ends, once the potential is moved
 pub record Explored (net : List ℕ) (m nodes : ℕ) (pot stamp via dist : List ℕ) (root : ℕ) (goal : List ℕ) (r d : ℕ) : Type 0 where
-  pub room : Room pot dist d nodes
+  pub room : Movable pot dist d nodes
   pub outcome : (pot' : List ℕ) → length pot' ≡ 81 → Moved pot pot' dist d nodes → Reached net m nodes pot' stamp via root goal r
 
 -- at the distance 0 nothing moves

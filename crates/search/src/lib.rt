@@ -9,7 +9,7 @@ ghost use Rattle.network.specs.Stored.{at, Beyond, Network, Potential};
 ghost use Rattle.search.specs.Tree.{Reached};
 ghost use Rattle.search.specs.Nearest.{LeastKey, Nearest};
 ghost use Rattle.network.specs.Index.{Index};
-ghost use Rattle.search.specs.Raise.{Room, Shifted};
+ghost use Rattle.search.specs.Raise.{Movable, Lifted};
 ghost use Rattle.search.specs.Reach.{Goals, Begins, Explored};
 use visit::FAR;
 
@@ -54,8 +54,8 @@ fn next(key: &[u32; 81], w: usize, d: u32) -> usize
 
 // Raise the nodes nearer than d by the difference, with the origin kept in place.
 fn raise(pot: &mut [u32; 81], dist: &[u32; 81], nodes: usize, d: u32)
-    requires { ⌜ Room (now pot) (now dist) d nodes ⌝ }
-    ensures { λ _. ⌜ Shifted (now (pot .entry)) (now (pot .exit)) (now (dist .entry)) d nodes ⌝ }
+    requires { ⌜ Movable (now pot) (now dist) d nodes ⌝ }
+    ensures { λ _. ⌜ Lifted (now (pot .entry)) (now (pot .exit)) (now (dist .entry)) d nodes ⌝ }
 {
     let base = network::least(dist[0], d);
     let mut v = 0;

@@ -82,7 +82,7 @@ module _ {t : Ticket} (G : Given t) {low high : ℕ → ℕ} (F : Free t low hig
 
 -- ---- a commitment: the committed windows as they are, the free ones at least as wide as before
 
-pub record Kept (t : Ticket) (flags : List Bool) (old : List Window) (low high : ℕ → ℕ) : Type 0 where
+pub record CommitBoxes (t : Ticket) (flags : List Bool) (old : List Window) (low high : ℕ → ℕ) : Type 0 where
   pub open-low : (i : ℕ) → i < t .events → low (suc i) ≡ cond (flagged flags (suc i)) (temporal.windowOf old (suc i) .opens) 0
   pub open-high : (i : ℕ) → i < t .events → high (suc i) ≡ temporal.windowOf old (suc i) .opens
   pub close-low : (i : ℕ) → i < t .events → low (t .events + suc i) ≡ temporal.windowOf old (suc i) .closes
@@ -101,7 +101,7 @@ pub cond-most : (b : Bool) (x y z : ℕ) → x ≤ z → y ≤ z → cond b x y 
 cond-most true x y z p q = p
 cond-most false x y z p q = q
 
-module _ {t : Ticket} (G : Given t) (flags : List Bool) (old : List Window) {low high : ℕ → ℕ} (K : Kept t flags old low high) (E : Ends (content t) old) where
+module _ {t : Ticket} (G : Given t) (flags : List Bool) (old : List Window) {low high : ℕ → ℕ} (K : CommitBoxes t flags old low high) (E : Ends (content t) old) where
   pub grows-allowed : (ws : List Window) → Grows (content t) flags old ws → Allowed t low high ws
   grows-allowed ws g =
       let n = t .events in
@@ -123,12 +123,12 @@ module _ {t : Ticket} (G : Given t) (flags : List Bool) (old : List Window) {low
       box i l = keeps-box (flagged flags (suc i)) (t .horizon) (temporal.windowOf old (suc i)) (temporal.windowOf ws (suc i))
           (omega (arith, g .ends .inside (suc i))) (g .kept (suc i) (omega (arith, in-events t)))
 
-  pub kept-top : (i : ℕ) → i < t .events → high (t .events + suc i) ≤ t .horizon
-  kept-top i l = rw (K .close-high i l)
+  pub boxes-top : (i : ℕ) → i < t .events → high (t .events + suc i) ≤ t .horizon
+  boxes-top i l = rw (K .close-high i l)
       (cond-most (flagged flags (suc i)) (temporal.windowOf old (suc i) .closes) (t .horizon) (t .horizon) (omega (arith, E .inside (suc i))) (omega arith))
 
   allowed-grows : (ws : List Window) → Allowed t low high ws → Grows (content t) flags old ws
-  allowed-grows ws A = record { ends = allowed-ends G low high ws kept-top A; kept = λ p l. keep p (omega (arith, in-events t)) }
+  allowed-grows ws A = record { ends = allowed-ends G low high ws boxes-top A; kept = λ p l. keep p (omega (arith, in-events t)) }
     where
       keep : (q : ℕ) → q ≤ t .events → KeepsAt (flagged flags q) (temporal.windowOf old q) (temporal.windowOf ws q)
       keep zero l = (omega arith, omega arith)
@@ -143,5 +143,5 @@ module _ {t : Ticket} (G : Given t) (flags : List Bool) (old : List Window) {low
           (rw (K .close-low i l, c) at (M .above-low (n + suc i) (omega arith) (omega arith)))
           (rw (K .close-high i l, c) at (M .below-high (n + suc i) (omega arith) (omega arith)))
 
-  pub kept-chosen : (ws : List Window) → Chosen (content t) (Allowed t low high) ws → Chosen (content t) (Grows (content t) flags old) ws
-  kept-chosen ws C = chosen-under (content t) (Allowed t low high) (Grows (content t) flags old) allowed-grows grows-allowed ws C
+  pub boxes-chosen : (ws : List Window) → Chosen (content t) (Allowed t low high) ws → Chosen (content t) (Grows (content t) flags old) ws
+  boxes-chosen ws C = chosen-under (content t) (Allowed t low high) (Grows (content t) flags old) allowed-grows grows-allowed ws C

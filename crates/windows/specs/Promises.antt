@@ -15,7 +15,7 @@ abbrev pub stateIn : Ticket → List ℕ → List ℕ → List ℕ → ℕ → S
 stateIn t flags opens closes count = stateOf (record { ticket = t; flags = flags; opens = opens; closes = closes; number = count })
 
 -- room for the edges, and whole arrays
-pub record Room (t : Ticket) (net opens closes : List ℕ) : Type 0 where
+pub record Workspace (t : Ticket) (net opens closes : List ℕ) : Type 0 where
   pub size : 20 * t .events + 4 * t .rules ≤ length net
   pub opens-long : length opens ≡ 40
   pub closes-long : length closes ≡ 40

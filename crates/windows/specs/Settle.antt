@@ -29,10 +29,10 @@ use Rattle.demands.specs.Network.{Meeting, meeting-same, Limits}
 use Rattle.schedule.specs.Times.{timesOf, schedule-timed, timed-schedule}
 use Rattle.schedule.specs.Schedule.{Decided}
 use Rattle.windows.specs.Promises.{stateIn}
-use Rattle.windows.specs.Boxes.{Allowed, Free, free-top, free-chosen, Kept, cond-most, grows-allowed, kept-chosen, allowed-lies}
+use Rattle.windows.specs.Boxes.{Allowed, Free, free-top, free-chosen, CommitBoxes, cond-most, grows-allowed, boxes-chosen, allowed-lies}
 
 -- boxes and a potential within them that keeps the rules
-pub record Started (t : Ticket) (low high : ℕ → ℕ) (pot : List ℕ) : Type 0 where
+pub record StartsWithin (t : Ticket) (low high : ℕ → ℕ) (pot : List ℕ) : Type 0 where
   pub limits : Limits t low high
   pub long : length pot ≡ 81
   pub meeting : Meeting t low high (at pot)
@@ -45,7 +45,7 @@ module _ {t : Ticket} (G : Given t) where
 
   -- windows that open and close at once
   pub plan-started : {times pot : List ℕ} {r : Bool} → Decided t times r → r ≡ true → Pairs (t .events) (λ i. at times (suc i)) (λ i. at times (suc i)) pot (t .events)
-      → Started t (at (replicate 81 0)) (at (replicate 81 (t .horizon))) pot
+      → StartsWithin t (at (replicate 81 0)) (at (replicate 81 (t .horizon))) pot
   unfolding closeNode
   plan-started {times} {pot} D e P =
       let n = t .events in
@@ -107,7 +107,7 @@ module _ {t : Ticket} (G : Given t) where
 
 module _ {t : Ticket} (G : Given t) {flags opens closes low high : List ℕ} (L : Limited (t .horizon) (t .events) flags opens closes low high)
     (E : Ends (content t) (windowList (t .events) opens closes)) where
-  kept : Kept t (flagList (t .events) flags) (windowList (t .events) opens closes) (at low) (at high)
+  kept : CommitBoxes t (flagList (t .events) flags) (windowList (t .events) opens closes) (at low) (at high)
   kept =
       let n = t .events in
       record {
@@ -124,7 +124,7 @@ module _ {t : Ticket} (G : Given t) {flags opens closes low high : List ℕ} (L 
     rw (window-at (t .events) opens closes i l) at (E .inside (suc i)),
   )
 
-  pub commit-started : {pot : List ℕ} → Pairs (t .events) (at opens) (at closes) pot (t .events) → Started t (at low) (at high) pot
+  pub commit-started : {pot : List ℕ} → Pairs (t .events) (at opens) (at closes) pot (t .events) → StartsWithin t (at low) (at high) pot
   commit-started {pot} P =
       let n = t .events in
       let old = windowList n opens closes in
@@ -148,7 +148,7 @@ module _ {t : Ticket} (G : Given t) {flags opens closes low high : List ℕ} (L 
 
   pub commit-chosen : {ws : List Window} → Chosen (content t) (Allowed t (at low) (at high)) ws
       → Chosen (content t) (Grows (content t) (flagList (t .events) flags) (windowList (t .events) opens closes)) ws
-  commit-chosen {ws} C = kept-chosen G (flagList (t .events) flags) (windowList (t .events) opens closes) kept E ws C
+  commit-chosen {ws} C = boxes-chosen G (flagList (t .events) flags) (windowList (t .events) opens closes) kept E ws C
 
 -- windows that fit lie within the horizon
 pub ends-lie : (t : Ticket) (opens closes : List ℕ) → Ends (content t) (windowList (t .events) opens closes) → Lie t opens closes

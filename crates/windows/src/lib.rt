@@ -15,12 +15,12 @@ ghost use Rattle.network.specs.Grow.{Flowless};
 ghost use Rattle.flow.specs.Solve.{Spans};
 ghost use Rattle.ticket.specs.Writing.{content};
 ghost use Rattle.potentials.specs.Arrays.{windowList, flagList, Given, Within};
-ghost use Rattle.windows.specs.Promises.{Room, Planned, Committed};
+ghost use Rattle.windows.specs.Promises.{Workspace, Planned, Committed};
 ghost use Rattle.windows.specs.Boxes.{Allowed};
 ghost use Rattle.windows.specs.Weights.{Weighs};
 ghost use Rattle.windows.specs.Widest.{Widened};
 ghost use Rattle.schedule.specs.Schedule.{Decided};
-ghost use Rattle.windows.specs.Settle.{Started, Asked};
+ghost use Rattle.windows.specs.Settle.{StartsWithin, Asked};
 
 // The weights of the events, each that of its owner.
 fn weigh(n: usize, owners: &[u8; 40], weight: &mut [u32; 81])
@@ -59,8 +59,8 @@ fn settle(
     closes: &mut [u32; 40],
 )
     requires { ⌜ Given t ⌝ }
-    requires { ⌜ Room t (now net) (now opens) (now closes) ⌝ }
-    requires { ⌜ Started t (at (now low)) (at (now high)) (now pot) ⌝ }
+    requires { ⌜ Workspace t (now net) (now opens) (now closes) ⌝ }
+    requires { ⌜ StartsWithin t (at (now low)) (at (now high)) (now pot) ⌝ }
     ensures { λ _. ⌜ Chosen (content t) (Allowed t (at (now (low .entry))) (at (now (high .entry)))) (windowList (t .events) (now (opens .exit)) (now (closes .exit))) ⌝ }
     ensures { λ _. ⌜ Within (t .events) (now (opens .entry)) (now (opens .exit)) × Within (t .events) (now (closes .entry)) (now (closes .exit)) ⌝ }
     ensures { λ _. ⌜ length (now (net .exit)) ≡ length (now (net .entry)) ⌝ }
@@ -81,7 +81,7 @@ fn place(
     closes: &mut [u32; 40],
 )
     requires { ⌜ Given t ⌝ }
-    requires { ⌜ Room t (now net) (now opens) (now closes) ⌝ }
+    requires { ⌜ Workspace t (now net) (now opens) (now closes) ⌝ }
     requires { ⌜ Decided t (now pot) true ⌝ }
     ensures { λ _. ⌜ Chosen (content t) (Allowed t (at (replicate 81 0)) (at (replicate 81 (t .horizon)))) (windowList (t .events) (now (opens .exit)) (now (closes .exit))) ⌝ }
     ensures { λ _. ⌜ Within (t .events) (now (opens .entry)) (now (opens .exit)) × Within (t .events) (now (closes .entry)) (now (closes .exit)) ⌝ }
@@ -101,7 +101,7 @@ pub fn plan_windows(
     closes: &mut [u32; 40],
 ) -> bool
     requires { ⌜ Valid (content t) ⌝ }
-    requires { ⌜ Room t (now net) (now opens) (now closes) ⌝ }
+    requires { ⌜ Workspace t (now net) (now opens) (now closes) ⌝ }
     ensures { λ r. ⌜ Planned t (now (opens .entry)) (now (closes .entry)) (now (opens .exit)) (now (closes .exit)) r ⌝ }
     ensures { λ _. ⌜ length (now (net .exit)) ≡ length (now (net .entry)) ⌝ }
 {
@@ -122,7 +122,7 @@ fn widen(
     closes: &mut [u32; 40],
 )
     requires { ⌜ Given t ⌝ }
-    requires { ⌜ Room t (now net) (now opens) (now closes) ⌝ }
+    requires { ⌜ Workspace t (now net) (now opens) (now closes) ⌝ }
     requires { ⌜ Ends (content t) (windowList (t .events) (now opens) (now closes)) ⌝ }
     ensures { λ _.
         ⌜ Chosen (content t) (Grows (content t) (flagList (t .events) (now (flags .entry))) (windowList (t .events) (now (opens .entry)) (now (closes .entry))))
@@ -149,7 +149,7 @@ pub fn commit_window(
     first: u32,
     last: u32,
 )
-    requires { ⌜ Room t (now net) (now opens) (now closes) ⌝ }
+    requires { ⌜ Workspace t (now net) (now opens) (now closes) ⌝ }
     requires { ⌜ Asked t (now flags) (now opens) (now closes) event first last ⌝ }
     ensures { λ _. ⌜ Committed t (now (flags .entry)) (now (opens .entry)) (now (closes .entry)) (now (flags .exit)) (now (opens .exit)) (now (closes .exit)) event first last ⌝ }
     ensures { λ _. ⌜ length (now (net .exit)) ≡ length (now (net .entry)) ⌝ }

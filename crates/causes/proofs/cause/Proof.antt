@@ -1,6 +1,6 @@
 -- `causes::cause` meets its contract: the tests are those of `temporal`, in arrays. Assumes nothing.
 use native.Mathlib.Omega.{arith}
-use Rattle.causes.specs.Structs.{kept-few, lies-asked}
+use Rattle.causes.specs.Structs.{canonical-few, lies-asked}
 use Rattle.causes.specs.FirstCause.{cause-told}
 use borrow.Author.Needs.{needs}
 use Rattle.causes.proofs.cause.Statement.{statement}
@@ -14,7 +14,7 @@ fit-requires c κs =
 cast-n : tie.Need-cast-n
 cast-n c =
     let entry : tie.Start = search needs in
-    omega (arith, kept-few (entry .args .r) (entry .pre))
+    omega (arith, canonical-few (entry .args .r) (entry .pre))
 
 flag-at-requires : tie.Need-flag-at-requires
 flag-at-requires c κs =

@@ -3,7 +3,7 @@ use borrow.Author.Needs.{needs, scaled-fits, fits-under}
 use lib.Dec.{lit<}
 use mir.Syntax.{w64}
 use lib.ListN.{getD}
-use Rattle.edge.specs.Limit.{Place, node-small}
+use Rattle.edge.specs.Limit.{EdgePlace, node-small}
 use Rattle.path.specs.Way.{Roaming, roaming-none, roaming-place, roaming-more, roomy}
 use Rattle.path.proofs.room.Statement.{statement}
 use Rattle.path.proofs.room.Tie as tie
@@ -19,7 +19,7 @@ abbrev entry : tie.In-loop Inv-loop μ-loop → tie.Start Inv-loop μ-loop
 entry c = c .before .before .before
 
 -- the edge that a turn takes
-edge : (c : tie.In-loop Inv-loop μ-loop) → Place (entry c .args .net .now) (getD (entry c .args .via .now) (c .before .loop .cur) 0)
+edge : (c : tie.In-loop Inv-loop μ-loop) → EdgePlace (entry c .args .net .now) (getD (entry c .args .via .now) (c .before .loop .cur) 0)
 edge c = roaming-place (entry c .pre .0) (entry c .pre .1 .0) (c .loop-test .taken) (c .before .loop .inv)
 
 loop-holds : tie.Need-loop-holds Inv-loop μ-loop

@@ -3,8 +3,8 @@ use mathlib.Core.Path.{sym, _∙_}
 use native.Mathlib.Omega.{arith}
 use lib.Seq.{length-take-le}
 use Rattle.causes.specs.Zeroed.{past-part}
-use Rattle.causes.specs.Structs.{kept-number}
-use Rattle.plan.specs.Steps.{commit-asked, kept-committed}
+use Rattle.causes.specs.Structs.{canonical-number}
+use Rattle.plan.specs.Steps.{commit-asked, canonical-committed}
 use borrow.Author.Needs.{needs}
 use Rattle.plan.proofs.commit_event.Statement.{statement}
 use Rattle.plan.proofs.commit_event.Tie as tie
@@ -26,7 +26,7 @@ commit-window-requires c κs =
 add-t20 : tie.Need-add-t20
 add-t20 c =
     let entry : tie.Start = search needs in
-    omega (arith, kept-number (entry .args .r) (entry .pre .0 .0))
+    omega (arith, canonical-number (entry .args .r) (entry .pre .0 .0))
 
 same-length : tie.Need-same-length
 same-length c = search needs
@@ -35,7 +35,7 @@ returns : tie.Need-returns
 returns c =
     let entry : tie.Start = search needs in
     let after-commit-window : tie.After-commit-window = search needs in (
-      kept-committed (entry .args .r) (entry .pre .0 .0) (entry .args .event) (entry .args .opens) (entry .args .closes) (entry .pre .0 .1)
+      canonical-committed (entry .args .r) (entry .pre .0 .0) (entry .args .event) (entry .args .opens) (entry .args .closes) (entry .pre .0 .1)
           (after-commit-window .commit-window .ensures .0),
       past-part 8192 1824 (entry .args .scratch .now) (after-commit-window .commit-window .last .0) (omega arith)
           (after-commit-window .commit-window .ensures .1 ∙ length-take-le 1824 (entry .args .scratch .now) (omega (arith, entry .pre .1))),

@@ -4,7 +4,7 @@ use native.Mathlib.Omega.{arith}
 use borrow.Author.Tests.{not-true, not-false}
 use lib.Seq.{length-take-le}
 use Rattle.causes.specs.Zeroed.{past-part}
-use Rattle.plan.specs.Steps.{plan-asked, planned-none, planned-some, kept-planned}
+use Rattle.plan.specs.Steps.{plan-asked, planned-none, planned-some, canonical-planned}
 use Rattle.plan.specs.Meets.{meets-refused, meets-accepted}
 use borrow.Author.Needs.{needs}
 use Rattle.plan.proofs.plan_ticket.Statement.{statement}
@@ -42,7 +42,7 @@ write-out-requires : tie.Need-write-out-requires
 write-out-requires c κs =
     let after-plan-windows : tie.After-plan-windows = search needs in
     let entry : tie.Start = search needs in
-    (kept-planned (after-plan-windows .plan-windows .ensures .0) (entry .pre .0) refl refl (not-false _ (c .before .if1 .left)), entry .pre .1 .0)
+    (canonical-planned (after-plan-windows .plan-windows .ensures .0) (entry .pre .0) refl refl (not-false _ (c .before .if1 .left)), entry .pre .1 .0)
 
 same-length-2 : tie.Need-same-length-2
 same-length-2 c = search needs

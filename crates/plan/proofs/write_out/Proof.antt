@@ -1,6 +1,6 @@
 -- `plan::write_out` meets its contract: what is written of a kept record, and its total. Assumes nothing.
 use Rattle.potentials.specs.Arrays.{windowList}
-use Rattle.causes.specs.Structs.{lies-asked, kept-storable}
+use Rattle.causes.specs.Structs.{lies-asked, canonical-storable}
 use borrow.Author.Needs.{needs}
 use Rattle.plan.proofs.write_out.Statement.{statement}
 use Rattle.plan.proofs.write_out.Tie as tie
@@ -13,7 +13,7 @@ total-requires c κs =
 put-record-requires : tie.Need-put-record-requires
 put-record-requires c κs =
     let entry : tie.Start = search needs in
-    (kept-storable (entry .args .r) (entry .pre .0), entry .pre .1)
+    (canonical-storable (entry .args .r) (entry .pre .0), entry .pre .1)
 
 same-length : tie.Need-same-length
 same-length c = search needs

@@ -2,14 +2,14 @@
 use native.Mathlib.Omega.{arith}
 use Prim.Native.Nat.{_≤_, _<_, _*_, _-_}
 use mathlib.Core.Path.{_≡_}
-use Rattle.scan.specs.Sweep.{Swept, Below, swept-none, origin-asks, origin-more}
+use Rattle.scan.specs.Sweep.{Swept, EdgesBelow, swept-none, origin-asks, origin-more}
 use borrow.Author.Needs.{needs}
 use Rattle.scan.proofs.scan_origin.Statement.{statement}
 use Rattle.scan.proofs.scan_origin.Tie as tie
 
 abbrev Inv-loop : tie.InvT-loop
 Inv-loop net m nodes pot stamp₀ via₀ dist₀ order₀ key₀ root t s d r₀ v₀ stamp via dist order key r v =
-    (0 < v) × (v ≤ nodes) × Swept net m nodes pot stamp₀ dist₀ order₀ t stamp via dist order key root r s d 0 (Below (2 * v - 2))
+    (0 < v) × (v ≤ nodes) × Swept net m nodes pot stamp₀ dist₀ order₀ t stamp via dist order key root r s d 0 (EdgesBelow (2 * v - 2))
 
 abbrev μ-loop : tie.MeasureT-loop
 μ-loop net m nodes pot stamp₀ via₀ dist₀ order₀ key₀ root t s d r₀ v₀ stamp via dist order key r v = nodes - v

@@ -4,12 +4,12 @@ use borrow.Author.Needs.{needs}
 use Prim.Native.Nat.{_≤_, _-_}
 use mathlib.Core.Path.{refl}
 use borrow.Author.Count.{below-none}
-use Rattle.search.specs.Raise.{Shifted, shifted-more}
+use Rattle.search.specs.Raise.{Lifted, lifted-more}
 use Rattle.search.proofs.raise.Statement.{statement}
 use Rattle.search.proofs.raise.Tie as tie
 
 abbrev Inv-loop : tie.InvT-loop
-Inv-loop pot₀ dist nodes d base v₀ pot v = (v ≤ nodes) × Shifted pot₀ pot dist d v
+Inv-loop pot₀ dist nodes d base v₀ pot v = (v ≤ nodes) × Lifted pot₀ pot dist d v
 
 abbrev μ-loop : tie.MeasureT-loop
 μ-loop pot₀ dist nodes d base v₀ pot v = nodes - v
@@ -66,7 +66,7 @@ loop-again c =
     let entry : tie.Start Inv-loop μ-loop = search needs in
     let i = at-loop .loop in
     let p = entry .pre in
-    (omega arith, shifted-more _ (i .inv .1) (omega (arith, p .few)) (omega (arith, i .inv .1 .rest (i .v) (omega arith), p .low (i .v) (omega arith))))
+    (omega arith, lifted-more _ (i .inv .1) (omega (arith, p .few)) (omega (arith, i .inv .1 .rest (i .v) (omega arith), p .low (i .v) (omega arith))))
 
 returns : tie.Need-returns Inv-loop μ-loop
 returns c =
