@@ -11,13 +11,15 @@ use Rattle.beyunlak.proofs.beyunlak_commit.Tie as tie
 
 returns : tie.Need-returns
 returns c =
-    let a = c .before .before .before .args in
-    committed-short (a .out .now) (replicate 8192 0) (a .record .now) (a .event) (a .open) (a .close) (omega arith)
+    let entry : tie.Start = search needs in
+    committed-short (entry .args .out .now) (replicate 8192 0) (entry .args .record .now) (entry .args .event) (entry .args .open) (entry .args .close) (omega arith)
 
 returns-2 : tie.Need-returns-2
 returns-2 c =
-    let a = c .before .before .before .before .before .before .before .before .before .before .args in
-    committed-told (a .out .now) (replicate 8192 0) (omega arith) (le-of-eq (sym (length-replicate {A = ℕ} 8192 0))) (a .record .now) (a .event) (a .open) (a .close) (c .before .before .before .commit-bytes .ensures)
+    let committed : tie.After-commit-bytes = search needs in
+    let entry : tie.Start = search needs in
+    committed-told (entry .args .out .now) (replicate 8192 0) (omega arith) (le-of-eq (sym (length-replicate {A = ℕ} 8192 0))) (entry .args .record .now)
+    (entry .args .event) (entry .args .open) (entry .args .close) (committed .commit-bytes .ensures)
 
 pub beyunlak-commit-spec : {M : Type 1} → statement M
 beyunlak-commit-spec = tie.close (tie.spec returns (λ c κs. search needs) (λ c. search needs) (λ c κs. search needs) (λ c. search needs) returns-2)

@@ -11,13 +11,15 @@ use Rattle.beyunlak.proofs.beyunlak_plan.Tie as tie
 
 returns : tie.Need-returns
 returns c =
-    let a = c .before .before .before .args in
-    planned-short (a .out .now) (replicate 8192 0) (a .ticket .now) (omega arith)
+    let entry : tie.Start = search needs in
+    planned-short (entry .args .out .now) (replicate 8192 0) (entry .args .ticket .now) (omega arith)
 
 returns-2 : tie.Need-returns-2
 returns-2 c =
-    let a = c .before .before .before .before .before .before .before .before .before .before .args in
-    planned-told (a .out .now) (replicate 8192 0) (omega arith) (le-of-eq (sym (length-replicate {A = ℕ} 8192 0))) (a .ticket .now) (c .before .before .before .plan-bytes .ensures)
+    let planned : tie.After-plan-bytes = search needs in
+    let entry : tie.Start = search needs in
+    planned-told (entry .args .out .now) (replicate 8192 0) (omega arith) (le-of-eq (sym (length-replicate {A = ℕ} 8192 0))) (entry .args .ticket .now)
+    (planned .plan-bytes .ensures)
 
 pub beyunlak-plan-spec : {M : Type 1} → statement M
 beyunlak-plan-spec = tie.close (tie.spec returns (λ c κs. search needs) (λ c. search needs) (λ c κs. search needs) (λ c. search needs) returns-2)

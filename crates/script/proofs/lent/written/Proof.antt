@@ -7,7 +7,10 @@ use Rattle.script.proofs.lent.written.Tie as tie
 
 returns : tie.Need-returns
 returns c =
-    let right = c .before .before .before .copy .ensures .1 ∙ ap (holding (c .before .before .before .before .before .before .before .before .args .bytes .now)) (c .before .before .before .before .before .output .ensures .1) in
+    let copied : tie.After-copy = search needs in
+    let made : tie.After-output = search needs in
+    let entry : tie.Start = search needs in
+    let right = copied .copy .ensures .1 ∙ ap (holding (entry .args .bytes .now)) (made .output .ensures .1) in
     record { sound = λ q. c .same .ensures .0 q ∙ right; whole = λ q. c .same .ensures .1 (q ∙ sym right) }
 
 pub written-spec : {M : Type 1} → statement M
