@@ -53,7 +53,7 @@ fn call(letter: u8, input: &[u8], kept: &mut [u8], s: State) -> State {
     match letter {
         b'k' => keep(input, kept, s),
         b'l' => lend(input, s),
-        b'p' | b'c' => planning::call(letter, input, kept, s),
+        b'p' | b'u' | b'c' => planning::call(letter, input, kept, s),
         _ => {
             try_call(letter, input, lent::part(kept, s.kept), s.out);
             s

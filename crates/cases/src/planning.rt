@@ -17,12 +17,12 @@ fn commit_once(record: &[u8], input: &[u8], out: &mut [u8], scratch: &mut [u32])
     plan::commit(record, event, opens, script::four(input, 8), out, scratch)
 }
 
-// Plan the input, or commit to the record.
+// Commit to the record, or plan the input.
 fn answer(letter: u8, input: &[u8], record: &[u8], out: &mut [u8], scratch: &mut [u32]) -> Answer {
-    if letter == b'p' {
-        plan_once(input, out, scratch)
-    } else {
+    if letter == b'c' {
         commit_once(record, input, out, scratch)
+    } else {
+        plan_once(input, out, scratch)
     }
 }
 
@@ -90,6 +90,7 @@ fn show(a: Answer, out: &[u8]) {
     }
 }
 
+// After `plan` the record is compared with the input, after the other calls with the kept record.
 fn report(letter: u8, a: Answer, input: &[u8], record: &[u8], out: &[u8], scratch: &[u32]) {
     show(a, out);
     if letter == b'p' {
