@@ -22,33 +22,38 @@ returns c =
 returns-2 : tie.Need-returns-2
 unfolding number
 returns-2 c =
-    let a = c .before .before .before .before .args in
+    let entry : tie.Start = search needs in
+    let a = entry .args in
     let r : Rule = record { from = a .from; to = a .to; bound = toZ w32 (a .b) } in
     ap verdict (sym (points-fail (a .n) r (apart-to (a .n) (r .from) (r .to) (omega arith) (omega arith))))
 
 returns-3 : tie.Need-returns-3
 unfolding number
 returns-3 c =
-    let a = c .before .before .before .before .before .args in
+    let entry : tie.Start = search needs in
+    let a = entry .args in
     let r : Rule = record { from = a .from; to = a .to; bound = toZ w32 (a .b) } in
     ap verdict (sym (points-fail (a .n) r (apart-same (a .n) (r .from) (r .to) (omega arith) (omega arith) (omega arith))))
 
 returns-4 : tie.Need-returns-4
 unfolding number
 returns-4 c =
-    let a = c .before .before .before .before .before .before .before .args in
+    let entry : tie.Start = search needs in
+    let a = entry .args in
     let r : Rule = record { from = a .from; to = a .to; bound = toZ w32 (a .b) } in
     ap verdict (sym (bound-fails (a .n) r (apart-yes (a .n) (r .from) (r .to) (omega arith) (omega arith) (λ e. omega arith)) (within-out (a .b) (omega arith) (omega arith) (omega arith))))
 
 returns-5 : tie.Need-returns-5
 returns-5 c =
-    let a = c .before .before .before .before .before .before .before .args in
+    let entry : tie.Start = search needs in
+    let a = entry .args in
     let r : Rule = record { from = a .from; to = a .to; bound = toZ w32 (a .b) } in
     ap verdict (sym (rule-passes (a .n) r _ (apart-yes (a .n) (r .from) (r .to) (omega arith) (omega arith) (λ e. omega arith)) (within-high (a .b) (omega arith) (omega arith))))
 
 returns-6 : tie.Need-returns-6
 returns-6 c =
-    let a = c .before .before .before .before .before .before .args in
+    let entry : tie.Start = search needs in
+    let a = entry .args in
     let r : Rule = record { from = a .from; to = a .to; bound = toZ w32 (a .b) } in
     ap verdict (sym (rule-passes (a .n) r _ (apart-yes (a .n) (r .from) (r .to) (omega arith) (omega arith) (λ e. omega arith)) (within-low (a .b) (omega arith) (omega arith))))
 
