@@ -6,9 +6,7 @@ ghost use lib.ListN.{length, replicate};
 ghost use Rattle.runs.specs.Calls.{planning, committing};
 ghost use Rattle.temporal.specs.Table.{tableOf};
 ghost use Rattle.table.specs.Lent.{ruleOf};
-
-// The least output of planning and commitment.
-const RECORD_BYTES: usize = 1948;
+use ticket::RECORD_BYTES;
 
 // The scratch of a call; as a call's result it is no list of 1,824 literals in the proofs.
 fn scratch() -> [u32; 1824]
