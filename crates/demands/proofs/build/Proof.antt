@@ -24,31 +24,45 @@ loop-holds c = (omega arith, extends-none _ _, below-none _)
 
 put-rule-requires : tie.Need-put-rule-requires Inv-loop μ-loop
 put-rule-requires c κs =
-    let G = c .before .before .before .before .before .before .before .before .before .before .before .before .before .before .before .pre .0 in
-    let j = c .before .before .before .before .before .loop .j in
-    let lj : j < c .before .before .before .before .before .before .before .before .before .before .before .before .before .before .before .args .t2 .rules = omega arith in
-    (rw (given-bound G j lj) (given-small G j lj), (G .few, omega (arith, c .before .before .before .before .before .loop .inv .1 .long, c .before .before .before .before .before .before .before .before .order .ensures .0 .long, c .before .before .before .before .before .before .before .before .before .before .before .before .boxes .ensures .0, c .before .before .before .before .before .before .before .before .before .before .before .before .before .before .before .pre .1 .0)))
+    let at-loop : tie.At-loop Inv-loop μ-loop = search needs in
+    let after-order : tie.After-order Inv-loop μ-loop = search needs in
+    let after-boxes : tie.After-boxes Inv-loop μ-loop = search needs in
+    let entry : tie.Start Inv-loop μ-loop = search needs in
+    let G = entry .pre .0 in
+    let j = at-loop .loop .j in
+    let lj : j < entry .args .t2 .rules = omega arith in (
+      rw (given-bound G j lj) (given-small G j lj),
+      (G .few, omega (arith, at-loop .loop .inv .1 .long, after-order .order .ensures .0 .long, after-boxes .boxes .ensures .0, entry .pre .1 .0)),
+    )
 
 loop-again : tie.Need-loop-again Inv-loop μ-loop
 loop-again c =
-    let G = c .before .before .before .before .before .before .before .before .before .before .before .before .before .before .before .before .before .before .pre .0 in
-    let t = c .before .before .before .before .before .before .before .before .before .before .before .before .before .before .before .before .before .before .args .t2 in
-    let j = c .before .before .before .before .before .before .before .before .loop .j in
+    let at-loop : tie.At-loop Inv-loop μ-loop = search needs in
+    let entry : tie.Start Inv-loop μ-loop = search needs in
+    let G = entry .pre .0 in
+    let t = entry .args .t2 in
+    let j = at-loop .loop .j in
     let lj : j < t .rules = omega arith in
-    let h = c .before .before .before .before .before .before .before .before .loop .inv in
+    let h = at-loop .loop .inv in
     let p = rw (given-bound G j lj) at (c .before .before .put-rule .ensures) in
     (omega arith, extends-trans (omega arith) (h .1) (p .extends), ruled-more t (t .events) (5 * t .events) j (h .2) p)
 
 same-length : tie.Need-same-length Inv-loop μ-loop
-same-length c = c .before .loop .inv .1 .long ∙ c .before .before .before .before .order .ensures .0 .long ∙ c .before .before .before .before .before .before .before .before .boxes .ensures .0
+same-length c =
+    let after-order : tie.After-order Inv-loop μ-loop = search needs in
+    let after-boxes : tie.After-boxes Inv-loop μ-loop = search needs in
+    c .before .loop .inv .1 .long ∙ after-order .order .ensures .0 .long ∙ after-boxes .boxes .ensures .0
 
 returns : tie.Need-returns Inv-loop μ-loop
 returns c =
+    let after-order : tie.After-order Inv-loop μ-loop = search needs in
+    let after-boxes : tie.After-boxes Inv-loop μ-loop = search needs in
+    let entry : tie.Start Inv-loop μ-loop = search needs in
     let l = c .before .loop .inv in
-    let o = c .before .before .before .before .order .ensures in
-    let x = c .before .before .before .before .before .before .before .before .boxes .ensures in
+    let o = after-order .order .ensures in
+    let x = after-boxes .boxes .ensures in
     let long = l .1 .long ∙ o .0 .long ∙ x .0 in
-    (built-by (omega (arith, long, c .before .before .before .before .before .before .before .before .before .before .before .pre .1 .0)) (x .1 .0) (o .0) (o .1) (l .1) (λ (i : ℕ) (li : i < c .before .before .before .before .before .before .before .before .before .before .before .args .t2 .rules). l .2 i (omega arith)), long)
+    (built-by (omega (arith, long, entry .pre .1 .0)) (x .1 .0) (o .0) (o .1) (l .1) (λ (i : ℕ) (li : i < entry .args .t2 .rules). l .2 i (omega arith)), long)
 
 pub build-spec : {M : Type 1} → statement M
 build-spec =
