@@ -5,12 +5,12 @@ pub mod Cases
 pub mod Signed
 pub mod Matrix
 pub mod Start
+pub mod Plain
 pub mod Stops
 pub mod Distances
 -- the loops, one file for each, and the answers
 pub mod Steps
-pub mod Arrays
-pub mod Checks
+pub mod Rows
 pub mod Closing
 pub mod Written
 pub mod Answers

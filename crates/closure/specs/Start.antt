@@ -59,19 +59,19 @@ pub record WithRules (k : Ticket) (e : ℕ) (D : Matrix) : Type 0 where
 
 -- ---- laws
 
-plain-same : (h i : ℕ) → plain h i i ≡ bias
+pub plain-same : (h i : ℕ) → plain h i i ≡ bias
 unfolding plain
 plain-same h i = rw (eq-eqb i i refl)
 
-plain-origin : (h i : ℕ) → plain h i 0 ≡ bias
+pub plain-origin : (h i : ℕ) → plain h i 0 ≡ bias
 unfolding plain
 plain-origin h i = by-eq i 0 (λ e. rw (eq-eqb i 0 e)) (λ k. rw (ne-eqb i 0 k))
 
-plain-horizon : (h j : ℕ) → (0 ≡ j → ⊥) → plain h 0 j ≡ bias + h
+pub plain-horizon : (h j : ℕ) → (0 ≡ j → ⊥) → plain h 0 j ≡ bias + h
 unfolding plain
 plain-horizon h j k = rw (ne-eqb 0 j k, ne-eqb j 0 (λ e. k (sym e)))
 
-plain-none : (h i j : ℕ) → (i ≡ j → ⊥) → (j ≡ 0 → ⊥) → (i ≡ 0 → ⊥) → plain h i j ≡ none
+pub plain-none : (h i j : ℕ) → (i ≡ j → ⊥) → (j ≡ 0 → ⊥) → (i ≡ 0 → ⊥) → plain h i j ≡ none
 unfolding plain
 plain-none h i j a b c = rw (ne-eqb i j a, ne-eqb j 0 b, ne-eqb i 0 c)
 

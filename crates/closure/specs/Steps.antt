@@ -1,11 +1,10 @@
 -- What the loops promise of their arrays. Definitions only. Assumes nothing.
 use Prim.Native.Nat.{ℕ, suc, _+_, _*_, _≤_, _<_}
 use mathlib.Core.Path.{_≡_}
-use mathlib.Core.Bool.{Bool, true, false, cond}
+use mathlib.Core.Bool.{Bool, true, false}
 use mathlib.Core.List.{List}
-use lib.Dec.{ltb}
 use lib.IntN.{ℤ, pos}
-use lib.ListN.{length, getD, set}
+use lib.ListN.{length, getD}
 use Rattle.closure.specs.Signed.{lower}
 use Rattle.closure.specs.Matrix.{Matrix, floor, Everywhere}
 use Rattle.closure.specs.Stops.{after, Floors, AboveFloors}
@@ -14,11 +13,7 @@ use Rattle.closure.specs.Stops.{after, Floors, AboveFloors}
 abbrev pub cell : ℕ → List ℤ → ℕ → ℕ → ℤ
 cell n out i j = getD out (i * (n + 1) + j) (pos 0)
 
--- The points i and j are of the network, and the entry x between them is below its floor.
-unfoldable pub fallenAt : ℕ → ℕ → ℕ → ℕ → Bool
-fallenAt n x i j = cond (ltb n i) false (cond (ltb n j) false (ltb x (floor i j)))
-
--- Such an entry.
+-- An entry of two points of the network that is below its floor.
 pub record Fallen (n : ℕ) (D : Matrix) : Type 0 where
   pub row : ℕ
   pub column : ℕ
@@ -42,10 +37,6 @@ pub record Closed (n : ℕ) (D R : Matrix) (r : Bool) : Type 0 where
   pub kept : r ≡ true → AboveFloors n D (n + 1)
   pub entries : r ≡ true → Everywhere n (λ i j. R i j ≡ after n D (n + 1) i j)
   pub stopped : r ≡ false → Stopped n D
-
--- The table with v in row i, column j, if both are of the network.
-unfoldable pub place : ℕ → List ℤ → ℕ → ℕ → ℤ → List ℤ
-place n out i j v = cond (ltb n i) out (cond (ltb n j) out (set out (i * (n + 1) + j) v))
 
 -- The entries D are written to an output.
 pub record Written (n : ℕ) (D : Matrix) (before after : List ℤ) : Type 0 where

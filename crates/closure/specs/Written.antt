@@ -1,17 +1,16 @@
--- The writing of the table, cell by cell. Assumes nothing.
-use Prim.Native.Nat.{ℕ, _+_, _*_, _/_, _%_, _≤_, _<_}
-use mathlib.Core.Path.{_≡_, refl, sym, ap, _∙_}
+-- The writing of the table, row by row. Assumes nothing.
+use Prim.Native.Nat.{ℕ, _+_, _*_, _≤_, _<_}
+use mathlib.Core.Path.{_≡_, refl, ap, _∙_}
 use mathlib.Core.List.{List}
 use native.Mathlib.Nat.{mul-le-mul, mul-le-mul-right, add-mul}
 use native.Mathlib.Omega.{arith}
-use borrow.Author.Tests.{lt-ltb, le-ltb}
 use lib.IntN.{ℤ, pos}
 use lib.ListN.{length, getD, set, length-set}
 use lib.Seq.{getD-set-same, getD-set-other}
 use Rattle.closure.specs.Cases.{by-lt, by-eq}
 use Rattle.closure.specs.Signed.{lower}
-use Rattle.closure.specs.Matrix.{Matrix, entry, Everywhere}
-use Rattle.closure.specs.Steps.{cell, place, Written}
+use Rattle.closure.specs.Matrix.{Matrix, Everywhere}
+use Rattle.closure.specs.Steps.{cell, Written}
 
 -- ---- rows of n + 1 numbers, one after the other
 
@@ -40,67 +39,65 @@ flat-apart n i i' j j' lj lj' differ e =
     let same : i ≡ i' = omega arith in
     differ same (omega (arith, ap (λ r. r * (n + 1)) same))))
 
--- ---- the loop
+-- ---- the loop over the columns of a row
 
--- The entries of the first p cells are written.
-pub record Writing (n : ℕ) (D : Matrix) (before after : List ℤ) (p : ℕ) : Type 0 where
+-- The entries of the row i in the columns below j are written, and no other number has changed.
+pub record RowWritten (n i j : ℕ) (D : Matrix) (before after : List ℤ) : Type 0 where
   pub long : length after ≡ length before
-  pub cells : Everywhere n (λ i j. 41 * i + j < p → cell n after i j ≡ lower (D i j))
+  pub row : (c : ℕ) → c < j → cell n after i c ≡ lower (D i c)
+  pub rest : (q : ℕ) → ((c : ℕ) → c < j → q ≡ i * (n + 1) + c → ⊥) → getD after q (pos 0) ≡ getD before q (pos 0)
+
+pub row-none : {n i : ℕ} {D : Matrix} {before : List ℤ} → RowWritten n i 0 D before before
+row-none = record { long = refl; row = λ c l. absurd (omega arith); rest = λ q apart. refl }
+
+pub row-more : (n i j : ℕ) (D : Matrix) (before out : List ℤ) → n ≤ 40 → 1681 ≤ length before → i ≤ n → j ≤ n → RowWritten n i j D before out
+    → RowWritten n i (j + 1) D before (set out (i * (n + 1) + j) (lower (D i j)))
+row-more n i j D before out ln lb li lj h =
+    let f = i * (n + 1) + j in
+    let v = lower (D i j) in
+    let below = flat-below n i j li lj in
+    let small = square n ln in
+    let long = h .long in
+    record {
+      long = length-set out f v ∙ h .long;
+      row = λ c l.
+          by-eq c j
+          (λ e. rw e (getD-set-same out f v (pos 0) (omega arith)))
+          (λ other.
+          getD-set-other out f (i * (n + 1) + c) v (pos 0) (λ e. other (omega arith))
+          ∙ h .row c (by-lt c j (λ k. k) (λ k. absurd (other (omega arith)))));
+      rest = λ q apart.
+          getD-set-other out f q v (pos 0) (λ e. apart j (omega arith) e)
+          ∙ h .rest q (λ c l e. apart c (omega arith) e);
+    }
+
+-- ---- the loop over the rows
+
+-- The entries of the first i rows are written.
+pub record Writing (n : ℕ) (D : Matrix) (before after : List ℤ) (i : ℕ) : Type 0 where
+  pub long : length after ≡ length before
+  pub cells : Everywhere n (λ r j. r < i → cell n after r j ≡ lower (D r j))
   pub beyond : (q : ℕ) → (n + 1) * (n + 1) ≤ q → getD after q (pos 0) ≡ getD before q (pos 0)
 
 pub writing-none : {n : ℕ} {D : Matrix} {before : List ℤ} → Writing n D before before 0
-writing-none = record { long = refl; cells = λ i j li lj l. absurd (omega arith); beyond = λ q l. refl }
+writing-none = record { long = refl; cells = λ r j lr lj l. absurd (omega arith); beyond = λ q l. refl }
 
-pub writing-all : {n : ℕ} {D : Matrix} {before after : List ℤ} {p : ℕ} → n ≤ 40 → 1681 ≤ p → Writing n D before after p → Written n D before after
-writing-all ln lp h =
-    record { long = h .long; cells = λ i j li lj. h .cells i j li lj (omega arith); beyond = h .beyond }
-
-module _ (n : ℕ) (out : List ℤ) (i j : ℕ) (v : ℤ) where
-  pub place-row : n < i → place n out i j v ≡ out
-  unfolding place
-  place-row l = rw (lt-ltb n i l)
-
-  pub place-column : i ≤ n → n < j → place n out i j v ≡ out
-  unfolding place
-  place-column k l = rw (le-ltb n i k, lt-ltb n j l)
-
-  pub place-inside : i ≤ n → j ≤ n → place n out i j v ≡ set out (i * (n + 1) + j) v
-  unfolding place
-  place-inside k l = rw (le-ltb n i k, le-ltb n j l)
-
--- One more cell.
-pub writing-more : (n : ℕ) (w : List ℕ) (before out : List ℤ) (p : ℕ) → n ≤ 40 → 1681 ≤ length before → Writing n (entry w) before out p
-    → Writing n (entry w) before (place n out (p / 41) (p % 41) (lower (getD w p 0))) (p + 1)
-writing-more n w before out p ln lb h =
-    let r = p / 41 in
-    let s = p % 41 in
-    let v = lower (getD w p 0) in
-    by-lt n r
-    (λ l.
-    rw (place-row n out r s v l)
-    (record { long = h .long; cells = λ i j li lj k. h .cells i j li lj (omega arith); beyond = h .beyond }))
-    (λ lr. by-lt n s
-    (λ l.
-    rw (place-column n out r s v lr l)
-    (record { long = h .long; cells = λ i j li lj k. h .cells i j li lj (omega arith); beyond = h .beyond }))
-    (λ ls.
-    let f = r * (n + 1) + s in
-    let below = flat-below n r s lr ls in
-    let small = square n ln in
-    let long = h .long in
-    rw (place-inside n out r s v lr ls)
-    (record {
-      long = length-set out f v ∙ h .long;
-      cells = λ i j li lj k.
-          by-eq (41 * i + j) p
-          (λ e.
-          let row : i ≡ r = omega arith in
-          let column : j ≡ s = omega arith in
-          ap (λ x. getD (set out f v) x (pos 0)) (ap (λ x. x * (n + 1) + j) row ∙ ap (λ x. r * (n + 1) + x) column)
-          ∙ getD-set-same out f v (pos 0) (omega arith)
-          ∙ ap (λ x. lower (getD w x 0)) (sym e))
+pub writing-more : {n i : ℕ} {D : Matrix} {before mid after : List ℤ} → i ≤ n → Writing n D before mid i → RowWritten n i (n + 1) D mid after
+    → Writing n D before after (i + 1)
+writing-more {n} {i} li h new =
+    record {
+      long = new .long ∙ h .long;
+      cells = λ r j lr lj l.
+          by-eq r i
+          (λ e. rw e (new .row j (omega arith)))
           (λ other.
-          getD-set-other out f (i * (n + 1) + j) v (pos 0) (flat-apart n i r j s lj ls (λ a b. other (omega arith)))
-          ∙ h .cells i j li lj (omega arith));
-      beyond = λ q l. getD-set-other out f q v (pos 0) (λ e. omega arith) ∙ h .beyond q l;
-    })))
+          new .rest (r * (n + 1) + j) (λ c lc. flat-apart n r i j c lj (omega arith) (λ a b. other a))
+          ∙ h .cells r j lr lj (by-lt r i (λ k. k) (λ k. absurd (other (omega arith)))));
+      beyond = λ q l.
+          new .rest q (λ c lc e. omega (arith, flat-below n i c li (omega arith)))
+          ∙ h .beyond q l;
+    }
+
+pub writing-all : {n i : ℕ} {D : Matrix} {before after : List ℤ} → n < i → Writing n D before after i → Written n D before after
+writing-all past h =
+    record { long = h .long; cells = λ r j lr lj. h .cells r j lr lj (omega arith); beyond = h .beyond }

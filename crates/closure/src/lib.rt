@@ -6,13 +6,16 @@ ghost use mathlib.Core.Path.{_≡_};
 ghost use Prim.Native.Nat.{_+_, _*_, _≤_, min};
 ghost use lib.IntN.{pos, negsuc};
 ghost use lib.Signed.{_≤ℤ_};
-ghost use lib.ListN.{length};
+ghost use lib.ListN.{length, set};
 ghost use Rattle.closure.specs.Signed.{raise, lower};
 ghost use Rattle.closure.specs.Matrix as matrix;
-ghost use Rattle.closure.specs.Matrix.{entry, none, relax, Everywhere, Stored};
+ghost use Rattle.closure.specs.Matrix.{entry, none, Everywhere, Stored};
 ghost use Rattle.closure.specs.Start as start;
+ghost use Rattle.closure.specs.Plain.{Pathless};
 ghost use Rattle.closure.specs.Stops.{Floors};
-ghost use Rattle.closure.specs.Steps.{fallenAt, place, Checked, Closed, Written};
+ghost use Rattle.closure.specs.Steps.{Checked, Closed, Written};
+ghost use Rattle.closure.specs.Rows.{StoredRows, RowRelaxed, RowChecked};
+ghost use Rattle.closure.specs.Written.{RowWritten};
 
 const BIAS: u64 = 2_000_000;
 
@@ -42,23 +45,6 @@ fn least(a: u64, b: u64) -> u64
     if b < a { b } else { a }
 }
 
-// The entry from i to j before any rule: every event lies in 0 to h.
-fn plain(h: u64, i: usize, j: usize) -> u64
-    requires { ⌜ h ≤ 1000000 ⌝ }
-    ensures { λ r. ⌜ r ≡ start.plain h i j ⌝ }
-{
-    if i == j {
-        return BIAS;
-    }
-    if j == 0 {
-        return BIAS;
-    }
-    if i == 0 {
-        return BIAS + h;
-    }
-    NONE
-}
-
 // An array to be filled; as a call's result it is no list of 1,681 literals in the proofs.
 fn blank() -> [u64; 1681]
     ensures { λ r. ⌜ length r ≡ 1681 ⌝ }
@@ -66,16 +52,31 @@ fn blank() -> [u64; 1681]
     [0u64; 1681]
 }
 
-// The entries before any rule.
-pub fn unruled(h: u64) -> [u64; 1681]
-    requires { ⌜ h ≤ 1000000 ⌝ }
-    ensures { λ r. ⌜ (length r ≡ 1681) × Everywhere 40 (λ i j. entry r i j ≡ start.plain h i j) ⌝ }
+// Entries with no path.
+fn pathless() -> [u64; 1681]
+    ensures { λ r. ⌜ Pathless 1681 r ⌝ }
 {
     let mut w = blank();
     let mut p = 0;
     while p < 1681 {
-        w[p] = plain(h, p / 41, p % 41);
+        w[p] = NONE;
         p += 1;
+    }
+    w
+}
+
+// The entries before any rule: every event lies in 0 to h.
+pub fn unruled(h: u64) -> [u64; 1681]
+    requires { ⌜ h ≤ 1000000 ⌝ }
+    ensures { λ r. ⌜ (length r ≡ 1681) × Everywhere 40 (λ i j. entry r i j ≡ start.plain h i j) ⌝ }
+{
+    let mut w = pathless();
+    let mut i = 0;
+    while i < 41 {
+        w[i] = BIAS + h;
+        w[41 * i] = BIAS;
+        w[41 * i + i] = BIAS;
+        i += 1;
     }
     w
 }
@@ -112,78 +113,69 @@ pub fn bounded(x: u64, c: i32) -> u64
     least(x, raised(c))
 }
 
-// The entry from i to j.
-fn entry_at(w: &[u64; 1681], i: usize, j: usize) -> u64
-    requires { ⌜ (i ≤ 40) × (j ≤ 40) ⌝ }
-    ensures { λ r. ⌜ r ≡ entry (now (w .entry)) i j ⌝ }
+// The row i after the stop k. Each entry of the row k is read before the same column is stored, so i may be k.
+fn relax_row(w: &mut [u64; 1681], n: usize, k: usize, i: usize)
+    requires { ⌜ (n ≤ 40) × (k ≤ n) × (i ≤ n) × (length (now w) ≡ 1681) ⌝ }
+    requires { ⌜ StoredRows n k i (entry (now w)) ⌝ }
+    ensures { λ _. ⌜ (length (now (w .exit)) ≡ 1681) × RowRelaxed n k i (entry (now (w .entry))) (entry (now (w .exit))) ⌝ }
 {
-    w[41 * i + j]
-}
-
-// The entry from i to j after the stop k, for points of the network; NONE for others.
-fn relaxed_at(old: &[u64; 1681], n: usize, k: usize, i: usize, j: usize) -> u64
-    requires { ⌜ (n ≤ 40) × (k ≤ n) ⌝ }
-    requires { ⌜ Everywhere n (λ i j. Stored (entry (now old) i j)) ⌝ }
-    ensures { λ r. ⌜ (i ≤ n → j ≤ n → r ≡ relax (entry (now (old .entry))) k i j) ⌝ }
-{
-    if n < i {
-        return NONE;
+    let a = w[41 * i + k];
+    if a == NONE {
+        return;
     }
-    if n < j {
-        return NONE;
+    let mut j = 0;
+    while j <= n {
+        w[41 * i + j] = least(w[41 * i + j], join(a, w[41 * k + j]));
+        j += 1;
     }
-    least(
-        entry_at(old, i, j),
-        join(entry_at(old, i, k), entry_at(old, k, j)),
-    )
 }
 
-// The stop k: paths may also go through k.
-fn relaxed(old: [u64; 1681], n: usize, k: usize) -> [u64; 1681]
-    requires { ⌜ (n ≤ 40) × (k ≤ n) ⌝ }
-    requires { ⌜ Everywhere n (λ i j. Stored (entry old i j)) ⌝ }
-    ensures { λ r. ⌜ Everywhere n (λ i j. entry r i j ≡ relax (entry old) k i j) ⌝ }
+// The stop k: paths may also go through k. The row k, which the others read, is the last.
+fn relax(w: &mut [u64; 1681], n: usize, k: usize)
+    requires { ⌜ (n ≤ 40) × (k ≤ n) × (length (now w) ≡ 1681) ⌝ }
+    requires { ⌜ Everywhere n (λ i j. Stored (entry (now w) i j)) ⌝ }
+    ensures { λ _. ⌜ length (now (w .exit)) ≡ 1681 ⌝ }
+    ensures { λ _. ⌜ Everywhere n (λ i j. entry (now (w .exit)) i j ≡ matrix.relax (entry (now (w .entry))) k i j) ⌝ }
 {
-    let mut new = blank();
-    let mut p = 0;
-    while p < 1681 {
-        new[p] = relaxed_at(&old, n, k, p / 41, p % 41);
-        p += 1;
+    let mut i = 0;
+    while i <= n {
+        if i != k {
+            relax_row(w, n, k, i);
+        }
+        i += 1;
     }
-    new
+    relax_row(w, n, k, k);
 }
 
-// What an entry of a network with a schedule is at least.
-fn floor(i: usize, j: usize) -> u64
-    ensures { λ r. ⌜ r ≡ matrix.floor i j ⌝ }
+// No entry of the row i is below its floor.
+fn row_possible(w: &[u64; 1681], n: usize, i: usize) -> bool
+    requires { ⌜ (n ≤ 40) × (i ≤ n) ⌝ }
+    ensures { λ r. ⌜ RowChecked n i (entry (now (w .entry))) r ⌝ }
 {
-    if i == j { BIAS } else { LEAST }
-}
-
-// The points i and j are of the network, and the entry x between them is below its floor.
-fn fallen(x: u64, n: usize, i: usize, j: usize) -> bool
-    ensures { λ r. ⌜ r ≡ fallenAt n x i j ⌝ }
-{
-    if n < i {
+    if w[41 * i + i] < BIAS {
         return false;
     }
-    if n < j {
-        return false;
+    let mut j = 0;
+    while j <= n {
+        if w[41 * i + j] < LEAST {
+            return false;
+        }
+        j += 1;
     }
-    x < floor(i, j)
+    true
 }
 
 // No entry is below its floor.
-fn possible(w: [u64; 1681], n: usize) -> bool
+fn possible(w: &[u64; 1681], n: usize) -> bool
     requires { ⌜ n ≤ 40 ⌝ }
-    ensures { λ r. ⌜ Checked n (entry w) r ⌝ }
+    ensures { λ r. ⌜ Checked n (entry (now (w .entry))) r ⌝ }
 {
-    let mut p = 0;
-    while p < 1681 {
-        if fallen(w[p], n, p / 41, p % 41) {
+    let mut i = 0;
+    while i <= n {
+        if !row_possible(w, n, i) {
             return false;
         }
-        p += 1;
+        i += 1;
     }
     true
 }
@@ -204,14 +196,13 @@ pub fn closure(start: [u64; 1681], n: usize) -> Outcome
     let mut w = start;
     let mut s = 0;
     while s <= n {
-        let next = relaxed(w, n, n - s);
-        if !possible(next, n) {
+        relax(&mut w, n, n - s);
+        if !possible(&w, n) {
             return Outcome {
                 possible: false,
-                entries: next,
+                entries: w,
             };
         }
-        w = next;
         s += 1;
     }
     Outcome {
@@ -220,20 +211,26 @@ pub fn closure(start: [u64; 1681], n: usize) -> Outcome
     }
 }
 
-// An entry of two points of the network is stored as a signed number.
+// The entry x from i to j is stored as a signed number.
 fn put(out: &mut [i32], n: usize, i: usize, j: usize, x: u64)
-    requires { ⌜ (n ≤ 40) × (1681 ≤ length (now out)) ⌝ }
-    requires { ⌜ (i ≤ n → j ≤ n → x ≤ 3000000) ⌝ }
-    ensures { λ _. ⌜ now (out .exit) ≡ place n (now (out .entry)) i j (lower x) ⌝ }
+    requires { ⌜ (n ≤ 40) × (1681 ≤ length (now out)) × (i ≤ n) × (j ≤ n) × (x ≤ 3000000) ⌝ }
+    ensures { λ _. ⌜ now (out .exit) ≡ set (now (out .entry)) (i * (n + 1) + j) (lower x) ⌝ }
 {
-    if n < i {
-        return;
-    }
-    if n < j {
-        return;
-    }
     let y = lowered(x);
     out[i * (n + 1) + j] = y;
+}
+
+// The entries of the row i are stored.
+fn write_row(w: &[u64; 1681], n: usize, i: usize, out: &mut [i32])
+    requires { ⌜ (n ≤ 40) × (1681 ≤ length (now out)) × (i ≤ n) ⌝ }
+    requires { ⌜ Everywhere n (λ i j. entry (now w) i j ≤ 3000000) ⌝ }
+    ensures { λ _. ⌜ RowWritten n i (n + 1) (entry (now (w .entry))) (now (out .entry)) (now (out .exit)) ⌝ }
+{
+    let mut j = 0;
+    while j <= n {
+        put(out, n, i, j, w[41 * i + j]);
+        j += 1;
+    }
 }
 
 // All entries between points of the network are stored, row by row.
@@ -242,9 +239,9 @@ pub fn write(w: [u64; 1681], n: usize, out: &mut [i32])
     requires { ⌜ Everywhere n (λ i j. entry w i j ≤ 3000000) ⌝ }
     ensures { λ _. ⌜ Written n (entry w) (now (out .entry)) (now (out .exit)) ⌝ }
 {
-    let mut p = 0;
-    while p < 1681 {
-        put(out, n, p / 41, p % 41, w[p]);
-        p += 1;
+    let mut i = 0;
+    while i <= n {
+        write_row(&w, n, i, out);
+        i += 1;
     }
 }

@@ -1,27 +1,39 @@
 -- `closure` meets its contract. After s stops no entry is below its floor. Assumes nothing.
 use Prim.Native.Nat.{_+_, _-_, _≤_}
+use mathlib.Core.Path.{_≡_}
 use native.Mathlib.Omega.{arith}
+use mir.Syntax.{w64}
+use borrow.Kind.Array.{eInt, good-length}
 use borrow.Author.Needs.{needs}
 use borrow.Author.Tests.{not-true, not-false}
+use lib.ListN.{length}
 use Rattle.closure.specs.Matrix.{entry}
 use Rattle.closure.specs.Closing.{Closing, closing-none, closing-stored, closing-more, closing-stop, closing-all}
 use Rattle.closure.proofs.closure.Statement.{statement}
 use Rattle.closure.proofs.closure.Tie as tie
 
 abbrev Inv-loop : tie.InvT-loop
-Inv-loop n w₀ s₀ w s = (s ≤ n + 1) × Closing n (entry w₀) (entry w) s
+Inv-loop n w₀ s₀ w s = (s ≤ n + 1) × (length w ≡ 1681) × Closing n (entry w₀) (entry w) s
 
 abbrev μ-loop : tie.MeasureT-loop
 μ-loop n w₀ s₀ w s = n + 1 - s
 
-loop-holds : tie.Need-loop-holds Inv-loop μ-loop
-loop-holds c = (omega arith, closing-none (c .args .n) (entry (c .args .start)) (c .pre .1 .0))
+-- places of the code, each from one after it
+abbrev relaxed : tie.After-possible Inv-loop μ-loop → tie.After-relax Inv-loop μ-loop
+relaxed c = c .before .before
 
-relaxed-requires : tie.Need-relaxed-requires Inv-loop μ-loop
-relaxed-requires c κs =
-    let args = c .before .before .args in (
-      (omega arith, omega arith),
-      closing-stored (args .n) (entry (args .start)) (entry (c .before .loop .w)) (c .before .loop .s) (c .before .loop .inv .1) (c .before .before .pre .1 .1),
+abbrev turn : tie.After-possible Inv-loop μ-loop → tie.At-loop Inv-loop μ-loop
+turn c = relaxed c .before .before .before
+
+loop-holds : tie.Need-loop-holds Inv-loop μ-loop
+loop-holds c = (omega arith, good-length (eInt w64) 1681 (c .args .start) _ (c .good .0), closing-none (c .args .n) (entry (c .args .start)) (c .pre .1 .0))
+
+relax-requires : tie.Need-relax-requires Inv-loop μ-loop
+relax-requires c κs =
+    let a = c .before .before in
+    let s = a .before in (
+      (omega arith, omega arith, a .loop .inv .1),
+      closing-stored (s .args .n) (entry (s .args .start)) (entry (a .loop .w)) (a .loop .s) (a .loop .inv .2) (s .pre .1 .1),
     )
 
 possible-requires : tie.Need-possible-requires Inv-loop μ-loop
@@ -29,36 +41,27 @@ possible-requires c κs = omega arith
 
 returns : tie.Need-returns Inv-loop μ-loop
 returns c =
-    let after-relaxed : tie.After-relaxed Inv-loop μ-loop = search needs in
-    let at-loop : tie.At-loop Inv-loop μ-loop = search needs in
-    let start : tie.Start Inv-loop μ-loop = search needs in
-    let loop = at-loop .loop in
-    let args = start .args in
-    closing-stop (args .n) (entry (args .start)) (entry (loop .w)) (loop .s) (loop .inv .1) (entry (after-relaxed .relaxed .result))
-    (after-relaxed .relaxed .ensures) (omega arith) (c .before .possible .ensures .bad (not-true _ (c .if1 .taken)))
-
-add-s : tie.Need-add-s Inv-loop μ-loop
-add-s c = search needs
-
-loop-less : tie.Need-loop-less Inv-loop μ-loop
-loop-less c = search needs
+    let a = turn (c .before) in
+    let s = a .before in
+    let after = relaxed (c .before) in
+    closing-stop (s .args .n) (entry (s .args .start)) (entry (a .loop .w)) (a .loop .s) (a .loop .inv .2) (entry (after .relax .last .0))
+    (after .relax .ensures .1) (omega arith) (c .before .possible .ensures .bad (not-true _ (c .if1 .taken)))
 
 loop-again : tie.Need-loop-again Inv-loop μ-loop
 loop-again c =
-    let after-relaxed : tie.After-relaxed Inv-loop μ-loop = search needs in
-    let at-loop : tie.At-loop Inv-loop μ-loop = search needs in
-    let start : tie.Start Inv-loop μ-loop = search needs in
-    let loop = at-loop .loop in
-    let args = start .args in (
+    let a = turn (c .before) in
+    let s = a .before in
+    let after = relaxed (c .before) in (
       omega arith,
-      closing-more (args .n) (entry (args .start)) (entry (loop .w)) (loop .s) (loop .inv .1) (entry (after-relaxed .relaxed .result))
-          (after-relaxed .relaxed .ensures) (c .before .possible .ensures .good (not-false _ (c .if1 .left))),
+      after .relax .ensures .0,
+      closing-more (s .args .n) (entry (s .args .start)) (entry (a .loop .w)) (a .loop .s) (a .loop .inv .2) (entry (after .relax .last .0))
+          (after .relax .ensures .1) (c .before .possible .ensures .good (not-false _ (c .if1 .left))),
     )
 
 returns-2 : tie.Need-returns-2 Inv-loop μ-loop
 returns-2 c =
     let args = c .before .before .args in
-    closing-all (args .n) (entry (args .start)) (entry (c .before .loop .w)) (c .before .loop .s) (omega arith) (c .before .loop .inv .1)
+    closing-all (args .n) (entry (args .start)) (entry (c .before .loop .w)) (c .before .loop .s) (omega arith) (c .before .loop .inv .2)
 
 pub closure-spec : {M : Type 1} → statement M
 closure-spec =
@@ -67,10 +70,10 @@ closure-spec =
     Inv-loop
     μ-loop
     loop-holds
-    relaxed-requires
+    relax-requires
     possible-requires
     returns
-    add-s
-    loop-less
+    (λ c. search needs)
+    (λ c. search needs)
     loop-again
     returns-2)

@@ -1,48 +1,32 @@
--- `possible` meets its contract. The loop has passed the first p cells, none of which is below its floor. Assumes nothing.
-use Prim.Native.Nat.{_≤_, _-_}
-use mathlib.Core.Path.{sym, _∙_}
+-- `possible` meets its contract. No entry of a row below i is below its floor. Assumes nothing.
+use Prim.Native.Nat.{ℕ, _+_, _-_, _≤_, _<_}
 use native.Mathlib.Omega.{arith}
+use borrow.Author.Count.{below-none, below-more}
 use borrow.Author.Needs.{needs}
-use Rattle.closure.specs.Matrix.{floor}
-use Rattle.closure.specs.Arrays.{Cells, cells-none, cells-next}
-use Rattle.closure.specs.Checks.{above, checked-bad, checked-good}
+use borrow.Author.Tests.{not-true, not-false}
+use Rattle.closure.specs.Matrix.{entry, floor}
+use Rattle.closure.specs.Rows.{checked-bad, checked-good}
 use Rattle.closure.proofs.possible.Statement.{statement}
 use Rattle.closure.proofs.possible.Tie as tie
 
 abbrev Inv-loop : tie.InvT-loop
-Inv-loop n w p₀ p = (p ≤ 1681) × Cells (λ i j x. i ≤ n → j ≤ n → floor i j ≤ x) w p
+Inv-loop w n i₀ i = (i ≤ n + 1) × ((r : ℕ) → r < i → (j : ℕ) → j ≤ n → floor r j ≤ entry w r j)
 
 abbrev μ-loop : tie.MeasureT-loop
-μ-loop n w p₀ p = 1681 - p
+μ-loop w n i₀ i = n + 1 - i
 
 loop-holds : tie.Need-loop-holds Inv-loop μ-loop
-loop-holds c = (omega arith, cells-none)
-
-mul-fallen : tie.Need-mul-fallen Inv-loop μ-loop
-mul-fallen c = search needs
-
-array-read-fallen : tie.Need-array-read-fallen Inv-loop μ-loop
-array-read-fallen c = search needs
-
-fallen-requires : tie.Need-fallen-requires Inv-loop μ-loop
-fallen-requires c κs = search needs
+loop-holds c = (omega arith, below-none _)
 
 returns : tie.Need-returns Inv-loop μ-loop
-returns c = checked-bad _ (c .before .before .before .before .args .t1) (c .before .before .before .loop .p) (omega arith) (omega arith) (sym (c .before .fallen .ensures) ∙ c .if1 .taken)
-
-add-p : tie.Need-add-p Inv-loop μ-loop
-add-p c = search needs
-
-loop-less : tie.Need-loop-less Inv-loop μ-loop
-loop-less c = search needs
+returns c = checked-bad (c .before .row-possible .ensures .bad (not-true _ (c .if1 .taken)))
 
 loop-again : tie.Need-loop-again Inv-loop μ-loop
 loop-again c =
-    let here = above _ _ _ _ (sym (c .before .fallen .ensures) ∙ c .if1 .left) in
-    (omega arith, cells-next (c .before .before .before .loop .inv .1) here)
+    (omega arith, below-more _ _ (c .before .before .before .loop .inv .1) (c .before .row-possible .ensures .good (not-false _ (c .if1 .left))))
 
 returns-2 : tie.Need-returns-2 Inv-loop μ-loop
-returns-2 c = checked-good _ (c .before .before .args .t1) _ (omega arith) (omega arith) (c .before .loop .inv .1)
+returns-2 c = checked-good (λ i j li lj. c .before .loop .inv .1 i (omega arith) j lj)
 
 pub possible-spec : {M : Type 1} → statement M
 possible-spec =
@@ -51,11 +35,9 @@ possible-spec =
     Inv-loop
     μ-loop
     loop-holds
-    mul-fallen
-    array-read-fallen
-    fallen-requires
+    (λ c κs. search needs)
     returns
-    add-p
-    loop-less
+    (λ c. search needs)
+    (λ c. search needs)
     loop-again
     returns-2)

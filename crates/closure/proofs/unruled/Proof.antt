@@ -1,48 +1,30 @@
--- `unruled` meets its contract. The loop has stored the first p cells. Assumes nothing.
-use Prim.Native.Nat.{_≤_, _-_}
-use mathlib.Core.Path.{_≡_}
+-- `unruled` meets its contract. The loop has stored the entries between the points below i. Assumes nothing.
+use Prim.Native.Nat.{_-_, _≤_}
 use native.Mathlib.Omega.{arith}
 use borrow.Author.Needs.{needs}
-use lib.ListN.{length, length-set}
-use Rattle.closure.specs.Start as start
-use Rattle.closure.specs.Arrays.{Cells, cells-none, cells-set, cells-all}
+use Rattle.closure.specs.Plain.{Points, points-none, points-more, points-all}
 use Rattle.closure.proofs.unruled.Statement.{statement}
 use Rattle.closure.proofs.unruled.Tie as tie
 
 abbrev Inv-loop : tie.InvT-loop
-Inv-loop h w₀ p₀ w p = (p ≤ 1681) × (length w ≡ 1681) × Cells (λ i j x. x ≡ start.plain h i j) w p
+Inv-loop h w₀ i₀ w i = (i ≤ 41) × Points h i w
 
 abbrev μ-loop : tie.MeasureT-loop
-μ-loop h w₀ p₀ w p = 1681 - p
-
-blank-requires : tie.Need-blank-requires Inv-loop μ-loop
-blank-requires c κs = search needs
+μ-loop h w₀ i₀ w i = 41 - i
 
 loop-holds : tie.Need-loop-holds Inv-loop μ-loop
-loop-holds c = (omega arith, c .blank .ensures, cells-none)
-
-plain-requires : tie.Need-plain-requires Inv-loop μ-loop
-plain-requires c κs = search needs
-
-mul-w : tie.Need-mul-w Inv-loop μ-loop
-mul-w c = search needs
-
-array-write-w : tie.Need-array-write-w Inv-loop μ-loop
-array-write-w c = search needs
-
-add-p : tie.Need-add-p Inv-loop μ-loop
-add-p c = search needs
-
-loop-less : tie.Need-loop-less Inv-loop μ-loop
-loop-less c = search needs
+loop-holds c = (omega arith, points-none (c .pathless .ensures))
 
 loop-again : tie.Need-loop-again Inv-loop μ-loop
 loop-again c =
-    let inv = c .before .before .loop .inv in
-    (omega arith, simp length-set (inv .1), cells-set _ (omega arith) (inv .2) (c .plain .ensures))
+    let loop = c .before .loop in
+    let start = c .before .before .before in
+    (omega arith, points-more (start .args .h) (loop .i) (loop .w) (omega arith) (loop .inv .1))
 
 returns : tie.Need-returns Inv-loop μ-loop
-returns c = (c .before .loop .inv .1, cells-all (c .before .loop .inv .2) (omega arith))
+returns c =
+    let all = c .before .loop .inv .1 in
+    (all .long, points-all (omega arith) all)
 
 pub unruled-spec : {M : Type 1} → statement M
 unruled-spec =
@@ -50,12 +32,19 @@ unruled-spec =
     (tie.spec
     Inv-loop
     μ-loop
-    blank-requires
+    (λ c κs. search needs)
     loop-holds
-    plain-requires
-    mul-w
-    array-write-w
-    add-p
-    loop-less
+    (λ c. search needs)
+    (λ c. search needs)
+    (λ c. search needs)
+    (λ c. search needs)
+    (λ c. search needs)
+    (λ c. search needs)
+    (λ c. search needs)
+    (λ c. search needs)
+    (λ c. search needs)
+    (λ c. search needs)
+    (λ c. search needs)
+    (λ c. search needs)
     loop-again
     returns)

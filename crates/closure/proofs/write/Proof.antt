@@ -1,55 +1,37 @@
--- `write` meets its contract. The loop has written the first p cells. Assumes nothing.
-use Prim.Native.Nat.{_+_, _*_, _-_, _/_, _%_, _≤_}
+-- `write` meets its contract. The loop has written the rows below i. Assumes nothing.
+use Prim.Native.Nat.{_+_, _-_, _≤_}
 use mathlib.Core.Path.{_≡_}
 use native.Mathlib.Omega.{arith}
 use borrow.Author.Needs.{needs}
 use Rattle.closure.specs.Matrix.{entry}
-use Rattle.closure.specs.Written.{Writing, writing-none, writing-all, writing-more}
+use Rattle.closure.specs.Written.{Writing, writing-none, writing-more, writing-all}
 use Rattle.closure.proofs.write.Statement.{statement}
 use Rattle.closure.proofs.write.Tie as tie
 
 abbrev Inv-loop : tie.InvT-loop
-Inv-loop n out₀ w p₀ out p = (p ≤ 1681) × Writing n (entry w) out₀ out p
+Inv-loop n out₀ w i₀ out i = (i ≤ n + 1) × Writing n (entry w) out₀ out i
 
 abbrev μ-loop : tie.MeasureT-loop
-μ-loop n out₀ w p₀ out p = 1681 - p
+μ-loop n out₀ w i₀ out i = n + 1 - i
 
 loop-holds : tie.Need-loop-holds Inv-loop μ-loop
 loop-holds c = (omega arith, writing-none)
 
-mul-put : tie.Need-mul-put Inv-loop μ-loop
-mul-put c = search needs
-
-array-read-put : tie.Need-array-read-put Inv-loop μ-loop
-array-read-put c = search needs
-
-put-requires : tie.Need-put-requires Inv-loop μ-loop
-put-requires c κs =
-    let start = c .before .before .before in
-    let cell : 41 * (c .before .before .loop .p / 41) + c .before .before .loop .p % 41 ≡ c .before .before .loop .p = omega arith in
-    ((omega arith, omega (arith, c .before .before .loop .inv .1 .long)), λ li lj. rw cell at (start .pre .1 _ _ li lj))
-
-add-p : tie.Need-add-p Inv-loop μ-loop
-add-p c = search needs
-
-loop-less : tie.Need-loop-less Inv-loop μ-loop
-loop-less c = search needs
+write-row-requires : tie.Need-write-row-requires Inv-loop μ-loop
+write-row-requires c κs =
+    let a = c .before .before .before in
+    ((omega arith, omega (arith, a .loop .inv .1 .long), omega arith), a .before .pre .1)
 
 loop-again : tie.Need-loop-again Inv-loop μ-loop
 loop-again c =
-    let at-loop : tie.At-loop Inv-loop μ-loop = search needs in
-    let start : tie.Start Inv-loop μ-loop = search needs in
-    let loop = at-loop .loop in (
-      omega arith,
-      rw (c .before .put .ensures)
-          (writing-more (start .args .n) (start .args .t1) (start .args .out .now) (loop .out) (loop .p) (omega arith) (omega arith) (loop .inv .1)),
-    )
+    let a = c .before .before .before .before .before in
+    (omega arith, writing-more (omega arith) (a .loop .inv .1) (c .before .write-row .ensures))
 
 same-length : tie.Need-same-length Inv-loop μ-loop
 same-length c = c .before .loop .inv .1 .long
 
 returns : tie.Need-returns Inv-loop μ-loop
-returns c = writing-all (omega arith) (omega arith) (c .before .loop .inv .1)
+returns c = writing-all (omega arith) (c .before .loop .inv .1)
 
 pub write-spec : {M : Type 1} → statement M
 write-spec =
@@ -58,11 +40,9 @@ write-spec =
     Inv-loop
     μ-loop
     loop-holds
-    mul-put
-    array-read-put
-    put-requires
-    add-p
-    loop-less
+    write-row-requires
+    (λ c. search needs)
+    (λ c. search needs)
     loop-again
     same-length
     returns)
