@@ -3,31 +3,20 @@ use Prim.Native.Nat.{ℕ, _+_, _*_, _≤_, _<_}
 use mathlib.Core.Path.{_≡_, sym, _∙_}
 use mathlib.Core.List.{List}
 use native.Mathlib.Omega.{arith}
-use borrow.Author.Count.{below-none, below-more}
-use lib.ListN.{length, getD, set, length-set}
+use lib.ListN.{length, getD, set, replicate, length-set, length-replicate, getD-replicate}
 use lib.Seq.{getD-set-same, getD-set-other}
 use Rattle.closure.specs.Cases.{by-eq, by-lt}
 use Rattle.closure.specs.Signed.{bias}
 use Rattle.closure.specs.Matrix.{entry, none, Everywhere}
 use Rattle.closure.specs.Start.{plain, plain-same, plain-origin, plain-horizon, plain-none}
 
--- The first p entries of an array of 41 rows of 41 have no path.
-pub record Pathless (p : ℕ) (w : List ℕ) : Type 0 where
+-- An array of 41 rows of 41 entries with no path.
+pub record Pathless (w : List ℕ) : Type 0 where
   pub long : length w ≡ 1681
-  pub at : (q : ℕ) → q < p → getD w q 0 ≡ none
+  pub at : (q : ℕ) → q < 1681 → getD w q 0 ≡ none
 
-pub pathless-none : {w : List ℕ} → length w ≡ 1681 → Pathless 0 w
-pathless-none long = record { long = long; at = below-none _ }
-
-pub pathless-more : {p : ℕ} {w : List ℕ} → p < 1681 → Pathless p w → Pathless (p + 1) (set w p none)
-pathless-more {p} {w} l e =
-    record {
-      long = length-set w p none ∙ e .long;
-      at =
-          below-more (λ q. getD (set w p none) q 0 ≡ none) p
-          (λ q k. getD-set-other w p q none 0 (omega arith) ∙ e .at q k)
-          (getD-set-same w p none 0 (omega (arith, e .long)));
-    }
+pub pathless-all : Pathless (replicate 1681 none)
+pathless-all = record { long = length-replicate 1681 none; at = λ q l. getD-replicate 1681 q none 0 l }
 
 -- The entries between the points below i are stored, and the others have no path.
 pub record Points (h i : ℕ) (w : List ℕ) : Type 0 where
@@ -35,7 +24,7 @@ pub record Points (h i : ℕ) (w : List ℕ) : Type 0 where
   pub done : Everywhere 40 (λ r c. r < i → c < i → entry w r c ≡ plain h r c)
   pub rest : Everywhere 40 (λ r c. (r < i → c < i → ⊥) → entry w r c ≡ none)
 
-pub points-none : {h : ℕ} {w : List ℕ} → Pathless 1681 w → Points h 0 w
+pub points-none : {h : ℕ} {w : List ℕ} → Pathless w → Points h 0 w
 points-none e =
     record {
       long = e .long;

@@ -45,24 +45,11 @@ fn least(a: u64, b: u64) -> u64
     if b < a { b } else { a }
 }
 
-// An array to be filled; as a call's result it is no list of 1,681 literals in the proofs.
-fn blank() -> [u64; 1681]
-    ensures { λ r. ⌜ length r ≡ 1681 ⌝ }
-{
-    [0u64; 1681]
-}
-
-// Entries with no path.
+// Entries with no path; as a call's result they are no list of 1,681 literals in the proofs.
 fn pathless() -> [u64; 1681]
-    ensures { λ r. ⌜ Pathless 1681 r ⌝ }
+    ensures { λ r. ⌜ Pathless r ⌝ }
 {
-    let mut w = blank();
-    let mut p = 0;
-    while p < 1681 {
-        w[p] = NONE;
-        p += 1;
-    }
-    w
+    [NONE; 1681]
 }
 
 // The entries before any rule: every event lies in 0 to h.

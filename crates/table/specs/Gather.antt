@@ -5,7 +5,7 @@ use mathlib.Core.List.{List, [], _∷_, _++_, map}
 use native.Mathlib.Numerals.{add-one}
 use native.Mathlib.Omega.{arith}
 use lib.IntN.{ℤ, pos}
-use lib.ListN.{length, getD, set}
+use lib.ListN.{length, getD, set, length-set}
 use lib.Seq.{getD-set-same, getD-set-other}
 use Rattle.temporal.specs.Lists.{tab, tab-cong}
 use Rattle.temporal.specs.Ticket as temporal
@@ -29,7 +29,7 @@ pub record Stored (e : ℕ) (rule : Rule) (held next : RuleArrays) : Type 0 wher
   pub rules : rulesOf (e + 1) (next .from) (next .to) (next .bound) ≡ rulesOf e (held .from) (held .to) (held .bound) ++ (ruleOf rule ∷ [])
   pub sized : Sized next
 
-pub stored-more : (e i j : ℕ) (c : ℤ) (from to : List ℕ) (bound : List ℤ) → e < length from → e < length to → e < length bound
+stored-more : (e i j : ℕ) (c : ℤ) (from to : List ℕ) (bound : List ℤ) → e < length from → e < length to → e < length bound
     → rulesOf (e + 1) (set from e i) (set to e j) (set bound e c) ≡ rulesOf e from to bound ++ (record { from = i; to = j; bound = c } ∷ [])
 stored-more e i j c from to bound lf lt lb =
     let old = flatAt from to bound in
@@ -40,6 +40,21 @@ stored-more e i j c from to bound lf lt lb =
     ∙ ap₂ (λ l x. l ++ (x ∷ []))
     (tab-cong e new old (λ d l. rw (getD-set-other from e d i 0 (λ q. omega arith), getD-set-other to e d j 0 (λ q. omega arith), getD-set-other bound e d c (pos 0) (λ q. omega arith)) refl))
     last)
+
+pub stored : (e : ℕ) (rule : Rule) (held : RuleArrays) → e < 256 → Sized held
+    → Stored e rule held (record { from = set (held .from) e (rule .from); to = set (held .to) e (rule .to); bound = set (held .bound) e (rule .bound) })
+stored e rule held l sized =
+    record {
+      rules =
+          stored-more e (rule .from) (rule .to) (rule .bound) (held .from) (held .to) (held .bound)
+          (omega (arith, sized .from)) (omega (arith, sized .to)) (omega (arith, sized .bound));
+      sized =
+          record {
+            from = length-set (held .from) e (rule .from) ∙ sized .from;
+            to = length-set (held .to) e (rule .to) ∙ sized .to;
+            bound = length-set (held .bound) e (rule .bound) ∙ sized .bound;
+          };
+    }
 
 -- The arrays hold f 0, .., f (e - 1).
 pub record Gathered (f : ℕ → temporal.Rule) (e : ℕ) (held : RuleArrays) : Type 0 where

@@ -1,12 +1,15 @@
 -- `copied` meets its contract. The arrays hold the first e rules of the slices. Assumes nothing.
 use native.Mathlib.Omega.{arith}
 use borrow.Author.Needs.{needs}
-use Prim.Native.Nat.{_-_, _≤_}
+use Prim.Native.Nat.{_-_, _≤_, _<_}
 use mathlib.Core.Path.{_≡_, refl}
 use borrow.Author.Needs.{sfits-of}
 use mir.Facts.{toZ-ofZ}
+use lib.IntN.{pos}
+use lib.ListN.{getD}
+use Rattle.table.specs.declared.Rule.{Rule}
 use Rattle.table.specs.Lent.{flatAt}
-use Rattle.table.specs.Gather.{Gathered, gathered-none, gathered-more}
+use Rattle.table.specs.Gather.{Gathered, stored, gathered-none, gathered-more}
 use Rattle.table.proofs.copied.Statement.{statement}
 use Rattle.table.proofs.copied.Tie as tie
 
@@ -16,21 +19,28 @@ Inv-loop count from to bound room held₀ e₀ held e = (e ≤ room) × Gathered
 abbrev μ-loop : tie.MeasureT-loop
 μ-loop count from to bound room held₀ e₀ held e = room - e
 
+-- places of the code, each from one after it
+abbrev turn : tie.After-c Inv-loop μ-loop → tie.In-loop Inv-loop μ-loop
+turn c = c .before .before .before
+
+abbrev entry : tie.After-c Inv-loop μ-loop → tie.Start Inv-loop μ-loop
+entry c = turn c .before .before .before .before .before .before
+
 loop-holds : tie.Need-loop-holds Inv-loop μ-loop
 loop-holds c = (omega arith, gathered-none _ (c .no-rules .ensures))
 
-put-rule-requires : tie.Need-put-rule-requires Inv-loop μ-loop
-put-rule-requires c κs =
-    let at-loop : tie.At-loop Inv-loop μ-loop = search needs in
-    let after-taken : tie.After-taken Inv-loop μ-loop = search needs in
-    (omega (arith, after-taken .taken .ensures .0), at-loop .loop .inv .1 .sized)
+-- there is room for the rule
+room : (c : tie.In-loop Inv-loop μ-loop) → c .before .loop .e < 256
+room c = omega (arith, c .before .before .before .taken .ensures .0)
 
 loop-again : tie.Need-loop-again Inv-loop μ-loop
 loop-again c =
-    let after-c : tie.After-c Inv-loop μ-loop = search needs in
-    let at-loop : tie.At-loop Inv-loop μ-loop = search needs in
-    let stored = rw (toZ-ofZ (sfits-of (after-c .c .given))) at (c .put-rule .ensures) in
-    (omega arith, gathered-more _ refl stored (at-loop .loop .inv .1))
+    let a = turn c .before in
+    let s = entry c in
+    let e = a .loop .e in
+    let rule : Rule = record { from = getD (s .args .from .now) e 0; to = getD (s .args .to .now) e 0; bound = getD (s .args .bound .now) e (pos 0) } in
+    let held = a .loop .inv .1 in
+    (omega arith, rw (toZ-ofZ (sfits-of (c .c .given))) (gathered-more rule refl (stored e rule (a .loop .held) (room (turn c)) (held .sized)) held))
 
 returns : tie.Need-returns Inv-loop μ-loop
 returns c =
@@ -51,10 +61,13 @@ copied-spec =
     (λ c κs. search needs)
     loop-holds
     (λ c. search needs)
+    (λ c. room (c .before))
+    (λ c. search needs)
+    (λ c. room (c .before .before))
     (λ c. search needs)
     (λ c. search needs)
-    (λ c. search needs)
-    put-rule-requires
+    (λ c. omega (arith, room (turn c)))
+    (λ c. room (turn c))
     (λ c. search needs)
     (λ c. search needs)
     loop-again
