@@ -52,7 +52,7 @@ fn pathless() -> [u64; 1681]
     [NONE; 1681]
 }
 
-// The entries before any rule: every event lies in 0 to h.
+// The entries before any rule: every event lies in 0 to h. The last store of a turn is the one that counts where i is 0.
 pub fn unruled(h: u64) -> [u64; 1681]
     requires { ⌜ h ≤ 1000000 ⌝ }
     ensures { λ r. ⌜ (length r ≡ 1681) × Everywhere 40 (λ i j. entry r i j ≡ start.plain h i j) ⌝ }

@@ -1,6 +1,5 @@
 -- `write` meets its contract. The loop has written the rows below i. Assumes nothing.
 use Prim.Native.Nat.{_+_, _-_, _≤_}
-use mathlib.Core.Path.{_≡_}
 use native.Mathlib.Omega.{arith}
 use borrow.Author.Needs.{needs}
 use Rattle.closure.specs.Matrix.{entry}

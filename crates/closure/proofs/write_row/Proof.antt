@@ -33,8 +33,8 @@ loop-again c =
     let s = a .before in (
       omega arith,
       rw (c .before .put .ensures)
-          (row-more (s .args .n) (s .args .i) (a .loop .j) (entry (s .args .w .now)) (s .args .out .now) (a .loop .out) (omega arith) (omega arith) (omega arith)
-          (omega arith) (a .loop .inv .1)),
+          (row-more (s .args .n) (s .args .i) (a .loop .j) (entry (s .args .w .now)) (s .args .out .now) (a .loop .out)
+          (omega arith) (omega arith) (omega arith) (omega arith) (a .loop .inv .1)),
     )
 
 same-length : tie.Need-same-length Inv-loop μ-loop
