@@ -1,5 +1,5 @@
 -- Planning and commitment on bytes, as functions of all that a call is lent: what is returned, and what output and scratch hold afterwards.
--- The bytes are `ticket`'s, the decisions `temporal`'s. This is 01's "Network, table, plan" and "Where a paper is sent back".
+-- The bytes are `ticket`'s, the decisions `temporal`'s. This is 01's "Network, table, plan" and "Where a paper is sent back", and 02's change 1.
 use mathlib.Core.Path.{_≡_}
 use mathlib.Core.Bool.{Bool, true, false, cond, _&&_}
 use mathlib.Core.List.{List, _++_}
@@ -8,7 +8,7 @@ use borrow.Author.Tests.{le-leb, lt-leb}
 use lib.Dec.{leb}
 use lib.ListN.{length, drop, replicate}
 use Rattle.temporal.specs.Ticket.{total}
-use Rattle.temporal.specs.Plan.{State, Answer, asking, plan, commit}
+use Rattle.temporal.specs.Plan.{State, Answer, asking, plan, planLatest, commit}
 use Rattle.ticket.specs.Parser.{Out, number, wholly}
 use Rattle.ticket.specs.Format.{readTicket, readState}
 use Rattle.ticket.specs.Writer.{writeState}
@@ -62,7 +62,7 @@ abbrev pub afterReading : {A : Type 0} → List ℕ → List ℕ → (A → Answ
 afterReading out scratch decide (Out.got x rest) = answered out scratch (decide x)
 afterReading out scratch decide (Out.refused cause) = refusing (number cause) out scratch
 
--- ---- the two calls: 10 is tested first, then the bytes are read, to their end, then it is decided
+-- ---- the calls: 10 is tested first, then the bytes are read, to their end, then it is decided
 
 -- where there is room
 abbrev pub planRead : (ticket out scratch : List ℕ) → Outcome
@@ -77,6 +77,14 @@ commitRead bytes event opens closes out scratch =
 
 unfoldable pub planning : (ticket out scratch : List ℕ) → Outcome
 planning ticket out scratch = cond (room out scratch) (planRead ticket out scratch) (withoutRoom out scratch)
+
+-- the latest plan (02, change 1): it "borrows, returns and refuses as planning does"
+abbrev pub planReadLatest : (ticket out scratch : List ℕ) → Outcome
+planReadLatest ticket out scratch =
+    afterReading out scratch planLatest (wholly readTicket ticket)
+
+unfoldable pub planningLatest : (ticket out scratch : List ℕ) → Outcome
+planningLatest ticket out scratch = cond (room out scratch) (planReadLatest ticket out scratch) (withoutRoom out scratch)
 
 unfoldable pub committing : (bytes : List ℕ) (event opens closes : ℕ) (out scratch : List ℕ) → Outcome
 committing bytes event opens closes out scratch =
@@ -104,6 +112,14 @@ module _ (ticket out scratch : List ℕ) where
   pub planning-read : room out scratch ≡ true → planning ticket out scratch ≡ planRead ticket out scratch
   unfolding planning
   planning-read e = rw e
+
+  pub planningLatest-short : room out scratch ≡ false → planningLatest ticket out scratch ≡ withoutRoom out scratch
+  unfolding planningLatest
+  planningLatest-short e = rw e
+
+  pub planningLatest-read : room out scratch ≡ true → planningLatest ticket out scratch ≡ planReadLatest ticket out scratch
+  unfolding planningLatest
+  planningLatest-read e = rw e
 
 module _ (bytes : List ℕ) (event opens closes : ℕ) (out scratch : List ℕ) where
   pub committing-short : room out scratch ≡ false → committing bytes event opens closes out scratch ≡ withoutRoom out scratch

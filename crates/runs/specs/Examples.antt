@@ -1,4 +1,5 @@
--- The examples P1 to P10 of 01 as one table: a call, and what it answers and leaves, whatever output and scratch of sufficient length it is lent.
+-- The examples P1 to P10 of 01, and P1's latest plan (02, change 1), as one table: a call, and what it answers and leaves, whatever output and scratch of
+-- sufficient length it is lent.
 -- What is decided of the tickets and records is `temporal`'s Examples; here the bytes are read and written.
 use mathlib.Core.Path.{_≡_, refl, ap, _∙_}
 use mathlib.Core.Bool.{true}
@@ -8,21 +9,23 @@ use lib.IntN.{ℤ, pos, negsuc}
 use lib.ListN.{length, drop}
 use Rattle.temporal.specs.Lists.{All}
 use Rattle.temporal.specs.Ticket.{Rule, Ticket, weights, weight, total}
-use Rattle.temporal.specs.Plan.{State, accepted, refused, plan, commit, asking}
+use Rattle.temporal.specs.Plan.{State, accepted, refused, plan, planLatest, commit, asking}
 use Rattle.temporal.specs.Table.{tableOf}
 use Rattle.temporal.specs.Examples.{minus as negative, ticket1, plan1, record3, ticket4, plan4, ticket6, ticket7, ticket8, ticket10}
-use Rattle.temporal.specs.Examples.{p1, p1-table, p2, p3, p4, p5, p6, p6-refused, p7, p7-refused, p8, p10}
+use Rattle.temporal.specs.Examples.{p1, p1-latest, p1-table, p2, p3, p4, p5, p6, p6-refused, p7, p7-refused, p8, p10}
 use Rattle.ticket.specs.Parser.{got, number, little, many, wholly}
 use Rattle.ticket.specs.Format.{readTicket, readOwner, readRule, readState, readWindow}
 use Rattle.ticket.specs.Writer.{bytes, each, entries, writeRule, writeTicket, writeWindow, writeState}
 use Rattle.ticket.specs.Writing.{over}
-use Rattle.runs.specs.Calls.{Outcome, room, cleared, refusing, answered, afterReading, planning, planning-read, committing, committing-read}
+use Rattle.runs.specs.Calls.{Outcome, room, cleared, refusing, answered, afterReading}
+use Rattle.runs.specs.Calls.{planning, planning-read, planningLatest, planningLatest-read, committing, committing-read}
 
 -- ---- how an example is written
 
 pub data Call : Type 0 where
   tables : (horizon events : ℕ) (rules : List Rule) → Call
   plans : (ticket : List ℕ) → Call
+  plansLatest : (ticket : List ℕ) → Call
   commits : (given : List ℕ) (event opens closes : ℕ) → Call
 
 -- a refusal's number, or the bytes written and the total returned
@@ -34,6 +37,7 @@ pub data Reply : Type 0 where
 abbrev pub Said : Call → Type 0
 Said (tables horizon events rules) = List ℤ
 Said (plans ticket) = Reply
+Said (plansLatest ticket) = Reply
 Said (commits given event opens closes) = Reply
 
 abbrev pub expected : Reply → List ℕ → List ℕ → Outcome
@@ -44,6 +48,7 @@ expected (writes written t) out scratch = record { number = 0; length = length w
 abbrev pub Answers : (c : Call) → Said c → Type 0
 Answers (tables horizon events rules) rows = (out : List ℤ) → 1681 ≤ length out → tableOf horizon events rules out ≡ (0, rows ++ drop (length rows) out)
 Answers (plans ticket) r = (out scratch : List ℕ) → room out scratch ≡ true → planning ticket out scratch ≡ expected r out scratch
+Answers (plansLatest ticket) r = (out scratch : List ℕ) → room out scratch ≡ true → planningLatest ticket out scratch ≡ expected r out scratch
 Answers (commits given event opens closes) r =
     (out scratch : List ℕ) → room out scratch ≡ true → committing given event opens closes out scratch ≡ expected r out scratch
 
@@ -87,6 +92,10 @@ bytes1 =
 abbrev pub record1 : List ℕ
 record1 = bytes1 ++ (two 2 ++ (window 0 5 10 ++ (window 0 8 9 ++ two 0)))
 
+-- P1's latest plan, which P3 commits on
+abbrev pub latest1 : List ℕ
+latest1 = bytes1 ++ (two 2 ++ (window 0 15 15 ++ (window 0 13 19 ++ two 0)))
+
 abbrev pub bytes4 : List ℕ
 bytes4 = four 5 ++ (two 3 ++ (3 ∷ 3 ∷ 3 ∷ (two 2 ++ (rule 1 2 0 ++ rule 2 3 0))))
 
@@ -112,9 +121,9 @@ examples =
     example 1 (tables 20 2 (ticket1 .rules))
     ((pos 0 ∷ pos 15 ∷ pos 19 ∷ []) ++ ((negative 5 ∷ pos 0 ∷ pos 4 ∷ []) ++ (negative 8 ∷ pos 2 ∷ pos 0 ∷ [])))
     ∷ example 1 (plans bytes1) (writes record1 6)
+    ∷ example 1 (plansLatest bytes1) (writes latest1 6)
     ∷ example 2 (commits record1 1 10 10) (writes (bytes1 ++ (two 2 ++ (window 1 10 10 ++ (window 0 8 14 ++ two 1)))) 6)
-    ∷ example 3 (commits (bytes1 ++ (two 2 ++ (window 0 15 15 ++ (window 0 13 19 ++ two 0)))) 2 13 13)
-    (writes (bytes1 ++ (two 2 ++ (window 0 9 15 ++ (window 1 13 13 ++ two 1)))) 6)
+    ∷ example 3 (commits latest1 2 13 13) (writes (bytes1 ++ (two 2 ++ (window 0 9 15 ++ (window 1 13 13 ++ two 1)))) 6)
     ∷ example 4 (plans bytes4) (writes record4 5)
     ∷ example 5 (commits record4 1 2 2) (writes (bytes4 ++ (two 3 ++ (window 1 2 2 ++ (window 0 0 2 ++ (window 0 0 0 ++ two 1))))) 2)
     ∷ example 6 (plans (bytes6 1)) (writes (bytes6 1 ++ (two 2 ++ (window 0 1 1 ++ (window 0 0 0 ++ two 0)))) 0)
@@ -137,6 +146,12 @@ module _ (ticket : List ℕ) {k : Ticket} (read : wholly readTicket ticket ≡ g
       → planning ticket out scratch ≡ expected (writes written t) out scratch
   plans-writes {s} written t p w q =
       planning-read ticket out scratch e ∙ ap (afterReading out scratch plan) read ∙ ap (answered out scratch) p ∙ answered-as s written t out scratch w q
+
+  latest-writes : {s : State} (written : List ℕ) (t : ℕ) → planLatest k ≡ accepted s → writeState s ≡ written → total (s .ticket) (s .windows) ≡ t
+      → planningLatest ticket out scratch ≡ expected (writes written t) out scratch
+  latest-writes {s} written t p w q =
+      planningLatest-read ticket out scratch e ∙ ap (afterReading out scratch planLatest) read ∙ ap (answered out scratch) p
+      ∙ answered-as s written t out scratch w q
 
   plans-refused : {r : ℕ} → plan k ≡ refused r → planning ticket out scratch ≡ expected (refuses r) out scratch
   plans-refused p = planning-read ticket out scratch e ∙ ap (afterReading out scratch plan) read ∙ ap (answered out scratch) p
@@ -166,9 +181,9 @@ read-record1 : wholly readState record1 ≡ got plan1 []
 unfolding readState readWindow readTicket readOwner readRule little many
 read-record1 = refl
 
-read-record3 : wholly readState (bytes1 ++ (two 2 ++ (window 0 15 15 ++ (window 0 13 19 ++ two 0)))) ≡ got record3 []
+read-latest1 : wholly readState latest1 ≡ got record3 []
 unfolding readState readWindow readTicket readOwner readRule little many
-read-record3 = refl
+read-latest1 = refl
 
 read-record4 : wholly readState record4 ≡ got plan4 []
 unfolding readState readWindow readTicket readOwner readRule little many
@@ -183,8 +198,9 @@ unfolding readTicket readOwner readRule little many number writeState writeTicke
 examples-hold =
     p1-table
     and (λ out scratch e. plans-writes bytes1 read1 out scratch e record1 6 p1 refl refl)
+    and (λ out scratch e. latest-writes bytes1 read1 out scratch e latest1 6 p1-latest refl refl)
     and (λ out scratch e. commits-writes record1 read-record1 1 10 10 out scratch e _ 6 p2 refl refl)
-    and (λ out scratch e. commits-writes _ read-record3 2 13 13 out scratch e _ 6 p3 refl refl)
+    and (λ out scratch e. commits-writes latest1 read-latest1 2 13 13 out scratch e _ 6 p3 refl refl)
     and (λ out scratch e. plans-writes bytes4 read4 out scratch e record4 5 p4 refl refl)
     and (λ out scratch e. commits-writes record4 read-record4 1 2 2 out scratch e _ 2 p5 refl refl)
     and (λ out scratch e. plans-writes (bytes6 1) {k = ticket6 (pos 1)} refl out scratch e _ 0 p6 refl refl)

@@ -33,7 +33,7 @@ pub record Tells (o : Outcome) (s : State) : Type 0 where
   pub length-is : o .length ≡ stateSize s
   pub total-is : o .total ≡ total (s .ticket) (s .windows)
 
-accepting-tells : (s : State) → Readable s → (out scratch : List ℕ) → Tells (accepting s out scratch) s
+pub accepting-tells : (s : State) → Readable s → (out scratch : List ℕ) → Tells (accepting s out scratch) s
 unfolding over
 accepting-tells s r out scratch = record {
   read =

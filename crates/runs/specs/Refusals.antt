@@ -1,7 +1,7 @@
--- Refusals of the two calls (01, "Where a paper is sent back"): a call answers a number other than 0 exactly where it is that of the first cause that
+-- Refusals of the calls (01, "Where a paper is sent back"): a call answers a number other than 0 exactly where it is that of the first cause that
 -- applies (`plan-refusal`, `commit-refusal`; of 9 alone `plan-nine`), so one to which none applies is accepted (`commit-accepted`); and a refusal returns
--- "number, zeros elsewhere" and leaves the output as it was (`plan-zeros`, `commit-zeros`). The causes of a planning are Run's `Unplanned`. Rests on Calls
--- and on `temporal`'s causes.
+-- "number, zeros elsewhere" and leaves the output as it was (`plan-zeros`, `latest-zeros`, `commit-zeros`). The causes of a planning are Run's `Unplanned`.
+-- Rests on Calls and on `temporal`'s causes.
 use mathlib.Core.Path.{_≡_, refl, sym, ap, subst, _∙_}
 use mathlib.Core.Bool.{Bool, true, false, cond}
 use mathlib.Core.List.{List, []}
@@ -12,7 +12,7 @@ use lib.Dec.{T, not-T}
 use Rattle.temporal.specs.Lists.{T-true, T-false}
 use Rattle.temporal.specs.Ticket.{Ticket, Schedule}
 use Rattle.temporal.specs.Distance.{consistent, consistent-has}
-use Rattle.temporal.specs.Plan.{State, Answer, accepted, number as decision, asking, planned, plan, cause, commit}
+use Rattle.temporal.specs.Plan.{State, Answer, accepted, number as decision, asking, planned, plan, planLatest, cause, commit}
 use Rattle.temporal.specs.Run.{Acceptable, FirstCause}
 use Rattle.temporal.specs.RunHolds.{distinct}
 use Rattle.temporal.specs.Answers.{plan-refused, commit-number}
@@ -23,7 +23,7 @@ use Rattle.ticket.specs.Format.{readTicket, readState}
 use Rattle.ticket.specs.RoundTrip.{Bytes, written-read-state, answered}
 use Rattle.runs.specs.Calls as calls
 use Rattle.runs.specs.Calls.{Outcome, room, withoutRoom, afterReading}
-use Rattle.runs.specs.Calls.{planning, planning-short, planning-read, committing, committing-short, committing-read}
+use Rattle.runs.specs.Calls.{planning, planning-short, planning-read, planningLatest, committing, committing-short, committing-read}
 use Rattle.runs.specs.Run.{Call, asks, outcome, Holds, Unplanned, short, unread, impossible}
 use Rattle.runs.specs.RunHolds.{answered-number, outcome-number}
 
@@ -186,6 +186,11 @@ module _ (out scratch : List ℕ) where
   pub plan-zeros : (ticket : List ℕ) → Zeros out (planning ticket out scratch)
   unfolding planning
   plan-zeros ticket = zeros-by (room out scratch) _ (zeros-read plan (wholly readTicket ticket))
+
+  -- of the latest plan (02, change 1), which "returns and refuses as planning does"
+  pub latest-zeros : (ticket : List ℕ) → Zeros out (planningLatest ticket out scratch)
+  unfolding planningLatest
+  latest-zeros ticket = zeros-by (room out scratch) _ (zeros-read planLatest (wholly readTicket ticket))
 
   pub commit-zeros : (current : List ℕ) (event opens closes : ℕ) → Zeros out (committing current event opens closes out scratch)
   unfolding committing
