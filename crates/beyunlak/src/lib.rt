@@ -1,9 +1,9 @@
-// The three functions that a host program in C calls: planning and commitment on numbers and byte slices, and the table of distances.
-// The first two hold the scratch that crate `plan` works in, so that number 10 says that the output is too short. Nobody sees it, so it is not cleared.
+// The four functions that a host program in C calls: planning, the latest plan and commitment on numbers and byte slices, and the table of distances.
+// The first three hold the scratch that crate `plan` works in, so that number 10 says that the output is too short. Nobody sees it, so it is not cleared.
 ghost use mathlib.Core.Path.{_≡_};
 ghost use mathlib.Core.List.{map};
 ghost use lib.ListN.{length, replicate};
-ghost use Rattle.runs.specs.Calls.{planning, committing};
+ghost use Rattle.runs.specs.Calls.{planning, planningLatest, committing};
 ghost use Rattle.temporal.specs.Table.{tableOf};
 ghost use Rattle.table.specs.Lent.{ruleOf};
 use ticket::RECORD_BYTES;
@@ -25,8 +25,22 @@ pub extern "C" fn beyunlak_plan(ticket: &[u8], out: &mut [u8]) -> u32
         return 10;
     }
     let mut lent = scratch();
-    let planned = plan::plan_bytes(ticket, out, &mut lent);
+    let planned = plan::plan_bytes(ticket, false, out, &mut lent);
     planned.number
+}
+
+// The record of the latest plan of a ticket, at the start of `out`. The answer is 0, or the number of the first cause to refuse.
+#[no_mangle]
+pub extern "C" fn beyunlak_plan_latest(ticket: &[u8], out: &mut [u8]) -> u32
+    ensures { λ r. ⌜ r ≡ planningLatest (now (ticket .entry)) (now (out .entry)) (replicate 8192 0) .number ⌝ }
+    ensures { λ _. ⌜ now (out .exit) ≡ planningLatest (now (ticket .entry)) (now (out .entry)) (replicate 8192 0) .out ⌝ }
+{
+    if out.len() < RECORD_BYTES {
+        return 10;
+    }
+    let mut lent = scratch();
+    let latest = plan::plan_bytes(ticket, true, out, &mut lent);
+    latest.number
 }
 
 // The record after `event` commits to `open` to `close`, at the start of `out`. The answer is 0, or the number of the first cause to refuse.

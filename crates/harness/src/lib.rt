@@ -1,10 +1,10 @@
-// What the tests call beside the three functions of crate `beyunlak`: planning and commitment with lent scratch, reading a ticket or a record and
+// What the tests call beside the four functions of crate `beyunlak`: both plans and commitment with lent scratch, reading a ticket or a record and
 // writing it back, and writing a ticket or a record of given values. Each answers the refusal number; a second result is stored through a reference.
 ghost use mathlib.Core.Path.{_≡_};
 ghost use lib.IntN.{pos};
 ghost use Rattle.ticket.specs.Format.{readTicket, readState};
 ghost use Rattle.ticket.specs.Writing.{writtenOf, outputOf, recordWritten, recordOutput};
-ghost use Rattle.runs.specs.Calls.{planning, committing};
+ghost use Rattle.runs.specs.Calls.{planning, planningLatest, committing};
 ghost use Rattle.harness.specs.Rewriting.{rewriting};
 ghost use Rattle.harness.specs.Values.{placed, valued, recorded};
 ghost use Rattle.harness.specs.Rewriting.{narrow as Rewriting·narrow};
@@ -34,6 +34,27 @@ pub extern "C" fn harness_plan(
     *size = narrow(n);
     *sum = planned.total;
     planned.number
+}
+
+#[no_mangle]
+pub extern "C" fn harness_plan_latest(
+    ticket: &[u8],
+    out: &mut [u8],
+    scratch: &mut [u32],
+    size: &mut u32,
+    sum: &mut u32,
+) -> u32
+    ensures { λ r. ⌜ r ≡ planningLatest (now (ticket .entry)) (now (out .entry)) (now (scratch .entry)) .number ⌝ }
+    ensures { λ _. ⌜ now (out .exit) ≡ planningLatest (now (ticket .entry)) (now (out .entry)) (now (scratch .entry)) .out ⌝ }
+    ensures { λ _. ⌜ now (scratch .exit) ≡ planningLatest (now (ticket .entry)) (now (out .entry)) (now (scratch .entry)) .scratch ⌝ }
+    ensures { λ _. ⌜ now (size .exit) ≡ Rewriting·narrow (planningLatest (now (ticket .entry)) (now (out .entry)) (now (scratch .entry)) .length) ⌝ }
+    ensures { λ _. ⌜ now (sum .exit) ≡ planningLatest (now (ticket .entry)) (now (out .entry)) (now (scratch .entry)) .total ⌝ }
+{
+    let latest = plan::plan_latest(ticket, out, scratch);
+    let n = latest.length;
+    *size = narrow(n);
+    *sum = latest.total;
+    latest.number
 }
 
 #[no_mangle]

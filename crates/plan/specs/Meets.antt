@@ -6,7 +6,7 @@ use Prim.Native.Nat.{ℕ, _≤_, _<_}
 use lib.ListN.{length}
 use Rattle.temporal.specs.Ticket as temporal
 use Rattle.temporal.specs.Ticket.{total}
-use Rattle.temporal.specs.Plan.{State, Answer as Decision, accepted, refused, plan, commit, asking}
+use Rattle.temporal.specs.Plan.{State, Answer as Decision, accepted, refused, plan, planLatest, commit, asking}
 use Rattle.temporal.specs.Run.{Valid, Readable}
 use Rattle.ticket.specs.Parser.{Cause, Out, got, number, wholly}
 use Rattle.ticket.specs.Parser as parser
@@ -19,8 +19,8 @@ use Rattle.ticket.specs.Laws.{was-refused, was-got}
 use Rattle.ticket.specs.declared.ReadTicket.{ReadTicket}
 use Rattle.ticket.specs.declared.ReadRecord.{ReadRecord}
 use Rattle.causes.specs.Zeroed.{past, zeroed-rest}
-use Rattle.runs.specs.Calls.{Outcome, zeroed, cleared, withoutRoom, answered, afterReading, planning, committing}
-use Rattle.runs.specs.Calls.{enough-room, no-room-out, planning-short, planning-read, committing-short, committing-read}
+use Rattle.runs.specs.Calls.{Outcome, zeroed, cleared, withoutRoom, answered, afterReading, planning, planningLatest, committing}
+use Rattle.runs.specs.Calls.{enough-room, no-room-out, planning-short, planning-read, planningLatest-short, planningLatest-read, committing-short, committing-read}
 use Rattle.ticket.specs.Agree.{content-stored}
 use Rattle.causes.specs.Structs.{state-of, Canonical, canonical-read}
 use Rattle.plan.specs.Returned.{returned}
@@ -68,9 +68,9 @@ module _ {A X : Type 0} (num : X → ℕ) (f : Out A → X) (yes : (a : A) (t : 
       }
 
 module _ (ticket : List ℕ) {x : ReadTicket} (e : x ≡ wholeTicket ticket) where
-  pub ticket-misread : {out scratch : List ℕ} {a : Answer} → (x .number ≡ 0 → ⊥) → a ≡ record { number = x .number; length = 0; total = 0 }
-      → Meets (afterReading out scratch plan (wholly readTicket ticket)) scratch a out scratch
-  ticket-misread n q = meets-misread (λ (y : ReadTicket). y .number) (answer 0) (λ k t. refl) (λ k. refl) plan (wholly readTicket ticket) x e n q
+  pub ticket-misread : (decide : temporal.Ticket → Decision) {out scratch : List ℕ} {a : Answer} → (x .number ≡ 0 → ⊥) → a ≡ record { number = x .number; length = 0; total = 0 }
+      → Meets (afterReading out scratch decide (wholly readTicket ticket)) scratch a out scratch
+  ticket-misread decide n q = meets-misread (λ (y : ReadTicket). y .number) (answer 0) (λ k t. refl) (λ k. refl) decide (wholly readTicket ticket) x e n q
 
   module _ (z : x .number ≡ 0) where
     read : (k : temporal.Ticket) × (rest : List ℕ) × (wholly readTicket ticket ≡ got k rest)
@@ -85,11 +85,12 @@ module _ (ticket : List ℕ) {x : ReadTicket} (e : x ≡ wholeTicket ticket) whe
     pub ticket-read : Bytes ticket → Valid (content (x .ticket))
     ticket-read b = subst Valid (sym holds) (written-read ticket (read .0) (read .1) b (read .2) .1)
 
-    pub ticket-meets : (out : List ℕ) {scratch : List ℕ} {a : Answer} {out′ scratch′ : List ℕ} → Meets (answered out scratch (plan (content (x .ticket)))) scratch a out′ scratch′
-        → Meets (afterReading out scratch plan (wholly readTicket ticket)) scratch a out′ scratch′
-    ticket-meets out {scratch} {a} {out′} {scratch′} m =
+    pub ticket-meets : (decide : temporal.Ticket → Decision) (out : List ℕ) {scratch : List ℕ} {a : Answer} {out′ scratch′ : List ℕ}
+        → Meets (answered out scratch (decide (content (x .ticket)))) scratch a out′ scratch′
+        → Meets (afterReading out scratch decide (wholly readTicket ticket)) scratch a out′ scratch′
+    ticket-meets decide out {scratch} {a} {out′} {scratch′} m =
         subst (λ o. Meets o scratch a out′ scratch′)
-        (ap (λ k. answered out scratch (plan k)) holds ∙ ap (afterReading out scratch plan) (sym (read .2))) m
+        (ap (λ k. answered out scratch (decide k)) holds ∙ ap (afterReading out scratch decide) (sym (read .2))) m
 
 module _ (bytes : List ℕ) {x : ReadRecord} (e : x ≡ wholeRecord bytes) (decide : State → Decision) where
   pub record-misread : {out scratch : List ℕ} {a : Answer} → (x .number ≡ 0 → ⊥) → a ≡ record { number = x .number; length = 0; total = 0 }
@@ -172,12 +173,19 @@ module _ (out z : List ℕ) where
   pub planned-short : (ticket : List ℕ) → length out < 1948 → Told (planning ticket out z) 10 out
   planned-short ticket l = told-short out z (planning-short ticket out z (no-room-out out z l))
 
+  pub latest-short : (ticket : List ℕ) → length out < 1948 → Told (planningLatest ticket out z) 10 out
+  latest-short ticket l = told-short out z (planningLatest-short ticket out z (no-room-out out z l))
+
   pub committed-short : (bytes : List ℕ) (event opens closes : ℕ) → length out < 1948 → Told (committing bytes event opens closes out z) 10 out
   committed-short bytes event opens closes l = told-short out z (committing-short bytes event opens closes out z (no-room-out out z l))
 
   module _ (l : 1948 ≤ length out) (m : 8192 ≤ length z) {s : List ℕ} {a : Answer} {out′ s′ : List ℕ} where
     pub planned-told : (ticket : List ℕ) → Meets (afterReading out s plan (wholly readTicket ticket)) s a out′ s′ → Told (planning ticket out z) (a .number) out′
     planned-told ticket h = told-read out s z plan (wholly readTicket ticket) (planning-read ticket out z (enough-room out z l m)) h
+
+    pub latest-told : (ticket : List ℕ) → Meets (afterReading out s planLatest (wholly readTicket ticket)) s a out′ s′
+        → Told (planningLatest ticket out z) (a .number) out′
+    latest-told ticket h = told-read out s z planLatest (wholly readTicket ticket) (planningLatest-read ticket out z (enough-room out z l m)) h
 
     pub committed-told : (bytes : List ℕ) (event opens closes : ℕ)
         → Meets (afterReading out s (λ (x : State). commit x (asking event opens closes)) (wholly readState bytes)) s a out′ s′

@@ -1,4 +1,4 @@
--- One planning and one commitment as the code takes them: what is asked of `windows`, what comes back, and that it is kept.
+-- One planning and one commitment as the code takes them: what is asked of `latest` and `windows`, what comes back, and that it is kept.
 use mathlib.Core.Path.{_≡_, refl, sym, ap, subst, _∙_}
 use mathlib.Core.Bool.{Bool, true, false, cond}
 use mathlib.Core.List.{List, [], _∷_}
@@ -10,24 +10,26 @@ use borrow.Author.Tests.{ne-eqb}
 use lib.ListN.{length, set, replicate}
 use lib.Seq.{getD-set-same, getD-set-other}
 use Rattle.temporal.specs.Ticket.{Ticket}
-use Rattle.temporal.specs.Plan.{State, Commitment, accepted, refused, plan, cause, commit, asking}
+use Rattle.temporal.specs.Plan.{State, Commitment, accepted, refused, planFor, cause, commit, asking}
 use Rattle.temporal.specs.Run.{Valid, Readable, Event}
 use Rattle.temporal.specs.Run as states
 use Rattle.temporal.specs.Causes.{acceptable}
 use Rattle.temporal.specs.RunHolds as states-hold
+use Rattle.temporal.specs.LatestRun.{plan-for}
 use Rattle.network.specs.Stored.{at}
 use Rattle.ticket.specs.Writing.{content, stateOf}
 use Rattle.ticket.specs.declared.Ticket.{Ticket as Struct}
 use Rattle.ticket.specs.declared.Record.{Record}
 use Rattle.potentials.specs.Arrays.{in-events, in-rules, Within}
-use Rattle.windows.specs.Promises.{stateIn, Workspace, Planned, Committed}
+use Rattle.windows.specs.Promises.{stateIn, Workspace, Committed}
 use Rattle.windows.specs.Settle.{Asked}
+use Rattle.latest.specs.Latest.{PlannedFor}
 use Rattle.causes.specs.Structs.{Past, zeros-past, within-past, set-past, Canonical, canonical-few}
 
 -- ---- what an accepted call leaves is readable
 
-pub planned-readable : (k : Ticket) → Valid k → (s : State) → plan k ≡ accepted s → Readable s
-planned-readable k v s e = let h = rw e at (states-hold.run (states.planning k) [] v) in h .4 .readable
+planned-readable : (late : Bool) (k : Ticket) → Valid k → (s : State) → planFor late k ≡ accepted s → Readable s
+planned-readable late k v s e = rw e at (plan-for late k v)
 
 pub committed-readable : (s : State) → Readable s → (c : Commitment) → cause s c ≡ 0 → (next : State) → commit s c ≡ accepted next → Readable next
 committed-readable s ok c z next e =
@@ -98,11 +100,11 @@ module _ {t : Struct} where
   pub plan-asked : {net opens closes : List ℕ} → Valid (content t) → length net ≡ 1824 → length opens ≡ 40 → length closes ≡ 40 → Valid (content t) × Workspace t net opens closes
   plan-asked {net} {opens} {closes} v l o c = (v, edges-room t net opens closes v l o c)
 
-  module _ {opens closes opens′ closes′ : List ℕ} {b : Bool} (P : Planned t opens closes opens′ closes′ b) where
-    pub planned-none : b ≡ false → plan (content t) ≡ refused 9
+  module _ {late : Bool} {opens closes opens′ closes′ : List ℕ} {b : Bool} (P : PlannedFor late t opens closes opens′ closes′ b) where
+    pub planned-none : b ≡ false → planFor late (content t) ≡ refused 9
     planned-none q = P .answer ∙ ap (λ x. cond x (accepted (stateIn t (replicate 40 0) opens′ closes′ 0)) (refused 9)) q
 
-    pub planned-some : b ≡ true → plan (content t) ≡ accepted (stateIn t (replicate 40 0) opens′ closes′ 0)
+    pub planned-some : b ≡ true → planFor late (content t) ≡ accepted (stateIn t (replicate 40 0) opens′ closes′ 0)
     planned-some q = P .answer ∙ ap (λ x. cond x (accepted (stateIn t (replicate 40 0) opens′ closes′ 0)) (refused 9)) q
 
     pub canonical-planned : Valid (content t) → opens ≡ replicate 40 0 → closes ≡ replicate 40 0 → b ≡ true
@@ -112,7 +114,7 @@ module _ {t : Struct} where
       opens-past = grown opens′ zo (P .opens-past);
       closes-past = grown closes′ zc (P .closes-past);
       bits = λ i. omega (arith, zeros-past 0 .zero-past i (omega arith));
-      readable = planned-readable (content t) v (stateIn t (replicate 40 0) opens′ closes′ 0) (planned-some q);
+      readable = planned-readable late (content t) v (stateIn t (replicate 40 0) opens′ closes′ 0) (planned-some q);
     }
       where
         grown : {xs : List ℕ} (ys : List ℕ) → xs ≡ replicate 40 0 → Within (t .events) xs ys → Past (t .events) ys

@@ -1,19 +1,19 @@
 // Planning and commitment on bytes: a ticket or a record is read, decided upon in the lent scratch, and the record is written into the lent output.
-// Each promise of `plan` and `commit` is an equation with the outcome that crate `runs` defines (specs/Calls) of all that the call is lent.
-// Rests on `causes` for what refuses a commitment and for clearing the scratch, on `reading`, `reading_records` and `writing_records` for the bytes, on `windows` and `fitness` for the windows.
+// Each promise of `plan`, `plan_latest` and `commit` is an equation with the outcome that crate `runs` defines (specs/Calls) of all that the call is lent.
+// Rests on `causes` for what refuses a commitment and for clearing the scratch, on `reading`, `reading_records` and `writing_records` for the bytes, on `latest`, `windows` and `fitness` for the windows.
 
 ghost use mathlib.Core.Path.{_≡_};
 ghost use Prim.Native.Nat.{_≤_};
 ghost use lib.ListN.{length};
 ghost use Rattle.temporal.specs.Ticket.{total};
-ghost use Rattle.temporal.specs.Plan.{State, plan, cause, commit, accepted, asking};
+ghost use Rattle.temporal.specs.Plan.{State, planFor, cause, commit, accepted, asking};
 ghost use Rattle.temporal.specs.Run.{Valid};
 ghost use Rattle.ticket.specs.Parser.{wholly};
 ghost use Rattle.ticket.specs.Format.{readTicket, readState};
 ghost use Rattle.ticket.specs.Writer.{writeState};
 ghost use Rattle.ticket.specs.Writing.{content, stateOf, over};
 ghost use Rattle.causes.specs.Zeroed.{past};
-ghost use Rattle.runs.specs.Calls.{answered, afterReading, planning, committing};
+ghost use Rattle.runs.specs.Calls.{answered, afterReading, planning, planningLatest, committing};
 ghost use Rattle.plan.specs.Returned.{returned};
 ghost use Rattle.causes.specs.Structs.{Canonical};
 ghost use Rattle.plan.specs.Meets.{Meets};
@@ -57,16 +57,16 @@ fn write_out(r: ticket::Record, out: &mut [u8]) -> Answer
     }
 }
 
-// Plan a ticket that was read.
-fn plan_ticket(t: ticket::Ticket, out: &mut [u8], scratch: &mut [u32]) -> Answer
+// Plan a ticket that was read: the latest plan where `latest` says so.
+fn plan_ticket(t: ticket::Ticket, latest: bool, out: &mut [u8], scratch: &mut [u32]) -> Answer
     requires { ⌜ Valid (content t) ⌝ }
     requires { ⌜ (1948 ≤ length (now out)) × (1824 ≤ length (now scratch)) ⌝ }
-    ensures { λ a. ⌜ Meets (answered (now (out .entry)) (now (scratch .entry)) (plan (content t))) (now (scratch .entry)) a (now (out .exit)) (now (scratch .exit)) ⌝ }
+    ensures { λ a. ⌜ Meets (answered (now (out .entry)) (now (scratch .entry)) (planFor latest (content t))) (now (scratch .entry)) a (now (out .exit)) (now (scratch .exit)) ⌝ }
 {
     let flags = [0u8; ticket::Ticket::EVENTS];
     let mut opens = [0u32; ticket::Ticket::EVENTS];
     let mut closes = [0u32; ticket::Ticket::EVENTS];
-    let found = windows::plan_windows(&mut scratch[..1824], t, &mut opens, &mut closes);
+    let found = latest::plan_windows(&mut scratch[..1824], t, latest, &mut opens, &mut closes);
     if !found {
         return refusal(9);
     }
@@ -80,11 +80,12 @@ fn plan_ticket(t: ticket::Ticket, out: &mut [u8], scratch: &mut [u32]) -> Answer
     write_out(r, out)
 }
 
-// Plan the ticket that the bytes hold, where there is room. Of the scratch the first 1,824 numbers are used, and not cleared.
-pub fn plan_bytes(ticket: &[u8], out: &mut [u8], scratch: &mut [u32]) -> Answer
+// Plan the ticket that the bytes hold, where there is room: the latest plan where `latest` says so. Of the scratch the first 1,824 numbers are used, and not
+// cleared.
+pub fn plan_bytes(ticket: &[u8], latest: bool, out: &mut [u8], scratch: &mut [u32]) -> Answer
     requires { ⌜ (1948 ≤ length (now out)) × (1824 ≤ length (now scratch)) ⌝ }
     ensures { λ a.
-        ⌜ Meets (afterReading (now (out .entry)) (now (scratch .entry)) plan (wholly readTicket (now (ticket .entry))))
+        ⌜ Meets (afterReading (now (out .entry)) (now (scratch .entry)) (planFor latest) (wholly readTicket (now (ticket .entry))))
         (now (scratch .entry)) a (now (out .exit)) (now (scratch .exit)) ⌝ }
 {
     let read = reading::read_ticket(ticket);
@@ -92,7 +93,7 @@ pub fn plan_bytes(ticket: &[u8], out: &mut [u8], scratch: &mut [u32]) -> Answer
         return refusal(read.number);
     }
     let t = read.ticket;
-    plan_ticket(t, out, scratch)
+    plan_ticket(t, latest, out, scratch)
 }
 
 // Plan the ticket that the bytes hold: the record goes into the output.
@@ -104,7 +105,21 @@ pub fn plan(ticket: &[u8], out: &mut [u8], scratch: &mut [u32]) -> Answer
     if causes::short(out.len(), scratch.len()) {
         return refusal(10);
     }
-    let answer = plan_bytes(ticket, out, scratch);
+    let answer = plan_bytes(ticket, false, out, scratch);
+    causes::clear(scratch);
+    answer
+}
+
+// The latest plan of the ticket that the bytes hold: the record goes into the output.
+pub fn plan_latest(ticket: &[u8], out: &mut [u8], scratch: &mut [u32]) -> Answer
+    ensures { λ a. ⌜ a ≡ returned (planningLatest (now (ticket .entry)) (now (out .entry)) (now (scratch .entry))) ⌝ }
+    ensures { λ a. ⌜ now (out .exit) ≡ planningLatest (now (ticket .entry)) (now (out .entry)) (now (scratch .entry)) .out ⌝ }
+    ensures { λ a. ⌜ now (scratch .exit) ≡ planningLatest (now (ticket .entry)) (now (out .entry)) (now (scratch .entry)) .scratch ⌝ }
+{
+    if causes::short(out.len(), scratch.len()) {
+        return refusal(10);
+    }
+    let answer = plan_bytes(ticket, true, out, scratch);
     causes::clear(scratch);
     answer
 }

@@ -1,4 +1,5 @@
-// What the program prints for the bytes of a ticket: they are planned, and the record that planning wrote is read and printed.
+// What the program prints for the bytes of a ticket: they are planned, and the record that planning wrote is read and printed. Where `latest` says so, it is
+// the latest plan.
 // Rests on `plan`, on `reading_records` for the record, and on `text` for its text.
 
 ghost use mathlib.Core.Path.{_≡_};
@@ -15,21 +16,21 @@ fn blank() -> [u8; 1948]
     [0u8; 1948]
 }
 
-fn scratch() -> [u32; 8192]
-    ensures { λ r. ⌜ 8192 ≡ length r ⌝ }
+fn scratch() -> [u32; 1824]
+    ensures { λ r. ⌜ 1824 ≡ length r ⌝ }
 {
-    [0u32; 8192]
+    [0u32; 1824]
 }
 
 // What the program prints for a ticket.
-pub fn print(ticket: &[u8], text: &mut [u8]) -> usize
+pub fn print(ticket: &[u8], latest: bool, text: &mut [u8]) -> usize
     requires { ⌜ 1787 ≤ length (now text) ⌝ }
-    ensures { λ r. ⌜ Puts (printed (now (ticket .entry))) (now (text .entry)) (now (text .exit)) 0 r ⌝ }
+    ensures { λ r. ⌜ Puts (printed latest (now (ticket .entry))) (now (text .entry)) (now (text .exit)) 0 r ⌝ }
     ensures { λ r. ⌜ Counts r (now (text .exit)) ⌝ }
 {
     let mut out = blank();
     let mut lent = scratch();
-    let answer = plan::plan(ticket, &mut out, &mut lent);
+    let answer = plan::plan_bytes(ticket, latest, &mut out, &mut lent);
     let number = answer.number;
     if number != 0 {
         return text::put_refusal(text, number);

@@ -1,5 +1,6 @@
 -- `plan::plan_bytes` meets its contract: a refused reading answers its number, and what was read is planned. Assumes nothing.
 use native.Mathlib.Omega.{arith}
+use Rattle.temporal.specs.Plan.{planFor}
 use Rattle.plan.specs.Meets.{ticket-misread, ticket-read, ticket-meets}
 use borrow.Author.Needs.{needs}
 use Rattle.plan.proofs.plan_bytes.Statement.{statement}
@@ -15,7 +16,7 @@ returns : tie.Need-returns
 returns c =
     let after-read-ticket : tie.After-read-ticket = search needs in
     let entry : tie.Start = search needs in
-    ticket-misread (entry .args .ticket .now) (after-read-ticket .read-ticket .ensures) (c .before .if1 .taken) (c .refusal .ensures)
+    ticket-misread (entry .args .ticket .now) (after-read-ticket .read-ticket .ensures) (planFor (entry .args .latest)) (c .before .if1 .taken) (c .refusal .ensures)
 
 plan-ticket-requires : tie.Need-plan-ticket-requires
 plan-ticket-requires c κs =
@@ -40,7 +41,7 @@ returns-2 c =
     let parsed : tie.Else1 = search needs in
     let after-read-ticket : tie.After-read-ticket = search needs in
     let entry : tie.Start = search needs in
-    ticket-meets (entry .args .ticket .now) (after-read-ticket .read-ticket .ensures) (parsed .if1 .left) (entry .args .out .now)
+    ticket-meets (entry .args .ticket .now) (after-read-ticket .read-ticket .ensures) (parsed .if1 .left) (planFor (entry .args .latest)) (entry .args .out .now)
     (after-plan-ticket .plan-ticket .ensures)
 
 pub plan-bytes-spec : {M : Type 1} → statement M

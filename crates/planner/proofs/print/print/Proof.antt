@@ -1,7 +1,6 @@
 -- `planner::print::print` meets its contract: what planning refuses is printed as refused, and otherwise the record that it wrote is read and
 -- printed. Assumes nothing.
 use mathlib.Core.Path.{_≡_, sym, ap, _∙_}
-use mathlib.Core.Bool.{true}
 use native.Mathlib.Omega.{arith}
 use borrow.Author.Needs.{needs}
 use lib.ListN.{length}
@@ -9,11 +8,10 @@ use lib.Seq.{length-take-le}
 use Rattle.temporal.specs.Plan.{State}
 use Rattle.ticket.specs.Stored.{storedState}
 use Rattle.ticket.specs.declared.ReadRecord.{ReadRecord}
-use Rattle.runs.specs.Calls.{planning, room}
 use Rattle.plan.specs.declared.Answer.{Answer}
 use Rattle.text.specs.Text.{refusal}
 use Rattle.text.specs.Stores.{puts-as, puts-counts}
-use Rattle.planner.specs.Printed.{Said, has-room, printed-refused, printed-planned, said-record, said-text}
+use Rattle.planner.specs.Printed.{Said, outcome, printed-refused, printed-planned, said-record, said-text}
 use Rattle.planner.proofs.print.print.Statement.{statement}
 use Rattle.planner.proofs.print.print.Tie as tie
 
@@ -21,52 +19,48 @@ use Rattle.planner.proofs.print.print.Tie as tie
 abbrev entry : tie.After-scratch → tie.Start
 entry c = c .before .before .before .before
 
-abbrev lent : tie.After-plan → tie.After-scratch
+abbrev lent : tie.After-plan-bytes → tie.After-scratch
 lent c = c .before .before .before
 
-abbrev planned : tie.Else1 → tie.After-plan
+abbrev planned : tie.Else1 → tie.After-plan-bytes
 planned c = c .before .before .before
-
--- planning has room
-space : (c : tie.After-scratch) → room (c .before .blank .result) (c .scratch .result) ≡ true
-space c = has-room (c .before .blank .result) (c .scratch .result) (c .before .blank .ensures) (c .scratch .ensures)
 
 returns : tie.Need-returns
 returns c =
     let refused : tie.Then1 = search needs in
-    let done : tie.After-plan = search needs in
+    let done : tie.After-plan-bytes = search needs in
     let l = lent done in
-    let n = ap (λ (r : Answer). r .number) (done .plan .ensures .0) in
+    let n = ap (λ (r : Answer). r .number) (done .plan-bytes .ensures .answer-is) in
     let p = c .before .before .put-refusal .ensures in
     let q = puts-as
-    (ap refusal n ∙ printed-refused (entry l .args .ticket .now) (l .before .blank .result) (l .scratch .result) (space l) (λ z. refused .if1 .taken (n ∙ z)))
+    (ap refusal n ∙ printed-refused (entry l .args .latest) (entry l .args .ticket .now) (l .before .blank .result) (l .scratch .result) (λ z. refused .if1 .taken (n ∙ z)))
     p in
     (q, puts-counts q)
 
 said : (c : tie.Else1) → let l = lent (planned c) in
-    (s : State) × Said (entry l .args .ticket .now) (planning (entry l .args .ticket .now) (l .before .blank .result) (l .scratch .result)) s
+    (s : State) × Said (entry l .args .latest) (entry l .args .ticket .now) (outcome (entry l .args .latest) (entry l .args .ticket .now) (l .before .blank .result) (l .scratch .result)) s
 said c =
     let known : tie.After-shared-slice-known = search needs in
     let l = lent (planned c) in
-    let n = ap (λ (r : Answer). r .number) (planned c .plan .ensures .0) in
-    printed-planned (entry l .args .ticket .now) (l .before .blank .result) (l .scratch .result) (space l)
+    let n = ap (λ (r : Answer). r .number) (planned c .plan-bytes .ensures .answer-is) in
+    printed-planned (entry l .args .latest) (entry l .args .ticket .now) (l .before .blank .result) (l .scratch .result)
     (λ i. omega (arith, known .shared-slice-known .given i)) (sym n ∙ c .if1 .left)
 
 array-share-prefix-out : tie.Need-array-share-prefix-out
 array-share-prefix-out c =
-    let p = planned c .plan .ensures in
-    omega (arith, said c .1 .length-fits, ap (λ (r : Answer). r .length) (p .0), ap length (p .1 .0))
+    let p = planned c .plan-bytes .ensures in
+    omega (arith, said c .1 .length-fits, ap (λ (r : Answer). r .length) (p .answer-is), ap length (p .output-is))
 
 slice-aggregate-read-record : tie.Need-slice-aggregate-read-record
 slice-aggregate-read-record c =
-    let p = planned (c .before) .plan in
-    sym (length-take-le (p .result .length) (p .last .1 .0) (array-share-prefix-out (c .before)))
+    let p = planned (c .before) .plan-bytes in
+    sym (length-take-le (p .result .length) (p .last .1 .1 .0) (array-share-prefix-out (c .before)))
 
 read-as : (c : tie.After-read-record) → c .read-record .result .plan ≡ storedState (said (c .before .before) .0)
 read-as c =
-    let p = planned (c .before .before) .plan in
+    let p = planned (c .before .before) .plan-bytes in
     ap (λ (r : ReadRecord). r .plan) (c .read-record .ensures)
-    ∙ said-record (said (c .before .before) .1) (p .result .length) (p .last .1 .0) (ap (λ (r : Answer). r .length) (p .ensures .0)) (p .ensures .1 .0)
+    ∙ said-record (said (c .before .before) .1) (p .result .length) (p .last .1 .1 .0) (ap (λ (r : Answer). r .length) (p .ensures .answer-is)) (p .ensures .output-is)
 
 put-plan-requires : tie.Need-put-plan-requires
 put-plan-requires c κs =
@@ -76,10 +70,10 @@ put-plan-requires c κs =
 returns-2 : tie.Need-returns-2
 returns-2 c =
     let read : tie.After-read-record = search needs in
-    let done : tie.After-plan = search needs in
+    let done : tie.After-plan-bytes = search needs in
     let d = said (search needs) .1 in
     let q = puts-as
-    (said-text d (read .read-record .result .plan) (done .plan .result .total) (read-as read) (ap (λ (r : Answer). r .total) (done .plan .ensures .0)))
+    (said-text d (read .read-record .result .plan) (done .plan-bytes .result .total) (read-as read) (ap (λ (r : Answer). r .total) (done .plan-bytes .ensures .answer-is)))
     (c .before .before .put-plan .ensures) in
     (q, puts-counts q)
 
