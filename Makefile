@@ -1,5 +1,6 @@
 # make           the library and the program, proved and built
 # make plan      the plan of $(TICKET), a ticket as text
+# make latest    its latest plan
 # make table     its table of distances, with the names of its events
 # make install   the header, the library and the pkg-config file, under $(PREFIX)
 PREFIX = /usr/local
@@ -17,6 +18,10 @@ plan: program
 	tools/ticket encode $(TICKET) target/ticket
 	target/bin/planner <target/ticket
 
+latest: program
+	tools/ticket encode $(TICKET) target/ticket
+	target/bin/planner latest <target/ticket
+
 table: library
 	$(CC) -std=c99 -O2 -Iinclude examples/table.c target/staticlib/libbeyunlak.a -o target/table
 	tools/ticket encode $(TICKET) target/ticket
@@ -28,4 +33,4 @@ install: library
 	install -m 644 target/staticlib/libbeyunlak.a $(DESTDIR)$(PREFIX)/lib
 	sed 's,@PREFIX@,$(PREFIX),' beyunlak.pc.in >$(DESTDIR)$(PREFIX)/lib/pkgconfig/beyunlak.pc
 
-.PHONY: all library program plan table install
+.PHONY: all library program plan latest table install

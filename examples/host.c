@@ -1,5 +1,5 @@
 /* A small host: makes a ticket of two events, plans it, lets event 1 commit to tick 10, prints both plans,
- * and shows a commitment that is refused.
+ * shows a commitment that is refused, and prints the latest plan of the same ticket.
  *
  *     cc -std=c99 -Iinclude examples/host.c target/staticlib/libbeyunlak.a -o host && ./host
  */
@@ -127,5 +127,12 @@ int main(void)
     size_t next_len = length(next);
     memcpy(plan, next, next_len);
     refused("event 1 at 9..9", beyunlak_commit(next, next_len, 1, 9, 9, plan, sizeof plan));
-    return memcmp(plan, next, next_len) != 0;
+    if (memcmp(plan, next, next_len) != 0)
+        return 1;
+
+    /* As wide, and every window as late as it can be. */
+    if (refused("latest planning", beyunlak_plan_latest(ticket, ticket_len, plan, sizeof plan)))
+        return 1;
+    print("latest plan", plan);
+    return 0;
 }

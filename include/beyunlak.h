@@ -3,8 +3,9 @@
  *
  * A session has a horizon and up to 40 events, each owned by a device, and rules on the time between two
  * points. beyunlak_plan gives every event a window, so that each device may pick any tick of its own window
- * without asking the others and no rule is broken. beyunlak_commit fixes one event's window and widens the
- * others as far as that allows. beyunlak_table tells how far apart in time any two points can be.
+ * without asking the others and no rule is broken; beyunlak_plan_latest does so as late as can be.
+ * beyunlak_commit fixes one event's window and widens the others as far as that allows. beyunlak_table tells
+ * how far apart in time any two points can be.
  *
  * Link with libbeyunlak.a. It needs no other library, keeps nothing between two calls, allocates nothing
  * and makes no system call.
@@ -13,7 +14,7 @@
  *   A tick is a tenth of a second. Point 0 is the start of the session, at tick 0. Points 1 to n are the
  *   events. Every event lies between tick 0 and the horizon, without a rule that says so.
  *
- * A TICKET, the input of beyunlak_plan. Numbers are unsigned and little-endian unless noted.
+ * A TICKET, the input of both plans. Numbers are unsigned and little-endian unless noted.
  *     offset       bytes  field
  *     0            4      horizon, 0 to 1,000,000
  *     4            2      n, the number of events, 0 to 40
@@ -27,7 +28,7 @@
  *   rule from 2 to 1 with bound -5. A pair of points may have several rules.
  *   A ticket has 8 + n + 6m bytes, and nothing follows it.
  *
- * A RECORD, the output of beyunlak_plan, and both input and output of beyunlak_commit. T stands for 8 + n + 6m.
+ * A RECORD, the output of both plans, and both input and output of beyunlak_commit. T stands for 8 + n + 6m.
  *     offset       bytes  field
  *     0            T      the ticket
  *     T            2      n again
@@ -145,6 +146,13 @@ enum beyunlak_answer {
  * Answers 0 to 10.
  */
 uint32_t beyunlak_plan(const uint8_t *ticket, size_t ticket_len, uint8_t *out, size_t out_len);
+
+/*
+ * The latest plan of a ticket: of the equally wide sets that beyunlak_plan chooses from, the one in which every
+ * open and every close is latest. It is as wide as the plan. A commitment on its record prefers the earliest,
+ * as on any record. Answers 0 to 10, the same number as beyunlak_plan.
+ */
+uint32_t beyunlak_plan_latest(const uint8_t *ticket, size_t ticket_len, uint8_t *out, size_t out_len);
 
 /*
  * The record after `event` is committed to the window `open` to `close`, which lies inside its present one.

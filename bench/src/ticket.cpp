@@ -97,6 +97,10 @@ void put(std::vector<uint8_t> &bytes, int64_t value, int size) {
     for (int k = 0; k < size; k++) bytes.push_back(static_cast<uint8_t>(bits >> (8 * k)));
 }
 
+int64_t number(const uint8_t *at) {
+    return static_cast<int64_t>(at[0]) | at[1] << 8 | at[2] << 16 | static_cast<int64_t>(at[3]) << 24;
+}
+
 }  // namespace
 
 const std::vector<std::string> structures = {"session", "dense", "chain", "diamonds", "ring", "precedence"};
@@ -155,11 +159,18 @@ std::vector<uint8_t> record_bytes(const Ticket &ticket, const Windows &windows, 
     return bytes;
 }
 
+Ticket ticket_of(const std::vector<uint8_t> &bytes) {
+    Ticket ticket;
+    ticket.horizon = number(bytes.data());
+    ticket.owners.assign(bytes.begin() + 6, bytes.begin() + 6 + bytes[4]);
+    for (size_t at = 8 + ticket.owners.size(); at < bytes.size(); at += 6) {
+        ticket.rules.push_back({bytes[at], bytes[at + 1], static_cast<int32_t>(number(bytes.data() + at + 2))});
+    }
+    return ticket;
+}
+
 Windows record_windows(const Ticket &ticket, const std::vector<uint8_t> &record) {
     const uint8_t *at = record.data() + 8 + ticket.events() + 6 * ticket.rules.size() + 2;
-    const auto number = [](const uint8_t *p) {
-        return static_cast<int64_t>(p[0]) | p[1] << 8 | p[2] << 16 | static_cast<int64_t>(p[3]) << 24;
-    };
     Windows windows;
     for (int k = 0; k < ticket.events(); k++, at += 9) windows.push_back({number(at + 1), number(at + 5)});
     return windows;

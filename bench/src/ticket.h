@@ -53,6 +53,8 @@ Ticket make_ticket(const std::string &structure, int events, int rules, uint64_t
 int usual_rules(const std::string &structure, int events);
 
 std::vector<uint8_t> ticket_bytes(const Ticket &ticket);
+// The ticket of bytes that planning accepts.
+Ticket ticket_of(const std::vector<uint8_t> &bytes);
 Windows record_windows(const Ticket &ticket, const std::vector<uint8_t> &record);
 std::vector<uint8_t> record_bytes(const Ticket &ticket, const Windows &windows, const std::vector<bool> &committed);
 

@@ -1,5 +1,5 @@
 /* The header against the library: every answer under its name, the lengths, what is left in the output, the
- * examples of commitments, and the table. Prints a line a check, "ok NAME" or "FAILED NAME". */
+ * examples of latest plans and commitments, and the table. Prints a line a check, "ok NAME" or "FAILED NAME". */
 #include <stdio.h>
 #include <string.h>
 
@@ -7,6 +7,10 @@
 
 static uint8_t in[4096], out[4096], before[4096];
 static size_t in_len;
+
+/* Which of the two plans is asked for, and what stands in front of its checks' names. */
+static uint32_t (*planning)(const uint8_t *, size_t, uint8_t *, size_t) = beyunlak_plan;
+static const char *of = "";
 
 static void put(uint32_t value, int bytes)
 {
@@ -16,7 +20,7 @@ static void put(uint32_t value, int bytes)
 
 static void check(const char *name, int good)
 {
-    printf("%s %s\n", good ? "ok" : "FAILED", name);
+    printf("%s %s%s\n", good ? "ok" : "FAILED", of, name);
 }
 
 static void start(uint32_t horizon, uint32_t n)
@@ -79,7 +83,7 @@ static void fill(void)
 static uint32_t plan(size_t out_len)
 {
     fill();
-    return beyunlak_plan(in, in_len, out, out_len);
+    return planning(in, in_len, out, out_len);
 }
 
 static uint32_t commit(uint32_t event, uint32_t open, uint32_t close, size_t out_len)
@@ -203,6 +207,60 @@ static void examples(void)
     }
 }
 
+/* The latest plans of P1, P4 and P6. */
+static void latest_examples(void)
+{
+    uint32_t answer;
+    trains();
+    answer = plan(BEYUNLAK_RECORD_MAX);
+    trains_record(0, 15, 15, 13, 19, 0);
+    gives("P1", answer);
+    trains();
+    answer = plan(sizeof out);
+    trains_record(0, 15, 15, 13, 19, 0);
+    gives("P1, longer output", answer);
+    start(5, 3);
+    owners(3, BEYUNLAK_STAGE);
+    put(2, 2);
+    rule(1, 2, 0);
+    rule(2, 3, 0);
+    answer = plan(BEYUNLAK_RECORD_MAX);
+    put(3, 2);
+    window(0, 5, 5);
+    window(0, 5, 5);
+    window(0, 0, 5);
+    put(0, 2);
+    gives("P4", answer);
+    start(10, 2);
+    owners(2, BEYUNLAK_STAGE);
+    put(2, 2);
+    rule(1, 2, -1);
+    rule(2, 1, 1);
+    answer = plan(BEYUNLAK_RECORD_MAX);
+    put(2, 2);
+    window(0, 10, 10);
+    window(0, 9, 9);
+    put(0, 2);
+    gives("P6", answer);
+}
+
+/* P3 as a run: a commitment on the record that a latest plan has just written. */
+static void latest_then_commitment(void)
+{
+    uint32_t answer;
+    trains();
+    answer = plan(BEYUNLAK_RECORD_MAX);
+    memcpy(in, out, in_len = BEYUNLAK_RECORD_LENGTH(2, 6));
+    check("P1 to commit on", answer == BEYUNLAK_ACCEPTED);
+    answer = commit(2, 13, 13, BEYUNLAK_RECORD_MAX);
+    trains();
+    put(2, 2);
+    window(0, 9, 15);
+    window(1, 13, 13);
+    put(1, 2);
+    gives("P1, then event 2 commits 13..13", answer);
+}
+
 /* The longest ticket and record: 40 events, 256 rules. */
 static void longest(void)
 {
@@ -316,5 +374,11 @@ int main(void)
     layout();
     table_answers();
     tables();
+    planning = beyunlak_plan_latest;
+    of = "latest ";
+    tickets();
+    latest_examples();
+    latest_then_commitment();
+    longest();
     return 0;
 }

@@ -22,13 +22,19 @@ same() { if cmp -s "$2" "$3"; then pass; else fail "$1"; diff "$2" "$3" | head -
 # bytes HEX [COUNT]: the bytes, whatever spaces stand between, as often as said
 bytes() { python3 -c 'import sys; sys.stdout.buffer.write(bytes.fromhex(sys.argv[1]) * int(sys.argv[2]))' "$1" "${2:-1}"; }
 
-# prints NAME WANTED: the program on $work/ticket
+# prints NAME WANTED [WORD]: the program on $work/ticket
 prints() {
     printf '%s\n' "$2" | tr '/' '\n' >"$work/wanted"
-    "$planner" <"$work/ticket" >"$work/got" 2>"$work/errors"
+    "$planner" ${3:+"$3"} <"$work/ticket" >"$work/got" 2>"$work/errors"
     good $? "$1: exit status"
     same "$1" "$work/wanted" "$work/got"
     if [ -s "$work/errors" ]; then fail "$1: wrote to standard error"; else pass; fi
+}
+
+# plans NAME WANTED [LATEST]: the program on $work/ticket, without and with the word `latest`
+plans() {
+    prints "$1" "$2"
+    prints "$1, latest" "${3:-$2}" latest
 }
 
 # ---- the program
@@ -37,34 +43,35 @@ prints() {
 python3 - "$here/cases.txt" "$work" <<'CASES' >"$work/list"
 import sys
 rows = [line.rstrip("\n").split("|") for line in open(sys.argv[1], encoding="ascii") if not line.startswith("#")]
-for number, (name, bytes_, answer) in enumerate(rows):
+for number, (name, bytes_, *answers) in enumerate(rows):
     with open(f"{sys.argv[2]}/{number}", "wb") as ticket:
         ticket.write(bytes.fromhex(bytes_))
-    print(number, name.strip(), answer.strip(), sep="|")
+    print(number, name.strip(), *(answer.strip() for answer in answers), sep="|")
 CASES
-while IFS='|' read -r number name wanted; do
+while IFS='|' read -r number name wanted latest; do
     mv "$work/$number" "$work/ticket"
-    prints "$name" "$wanted"
+    plans "$name" "$wanted" "$latest"
 done <"$work/list"
 
-while IFS='|' read -r name wanted; do
+while IFS='|' read -r name wanted latest; do
     cp "examples/tickets/${name% }.ticket" "$work/ticket"
-    prints "examples/tickets/${name% }" "${wanted# }"
+    wanted=${wanted# }
+    plans "examples/tickets/${name% }" "${wanted% }" "${latest# }"
 done <<'CASES'
-p1 | plan 2 6/1 0 5 10/2 2 8 9
-p4 | plan 3 5/1 3 0 5/2 3 0 0/3 3 0 0
-p6 | plan 2 0/1 3 1 1/2 3 0 0
+p1 | plan 2 6/1 0 5 10/2 2 8 9 | plan 2 6/1 0 15 15/2 2 13 19
+p4 | plan 3 5/1 3 0 5/2 3 0 0/3 3 0 0 | plan 3 5/1 3 5 5/2 3 5 5/3 3 0 5
+p6 | plan 2 0/1 3 1 1/2 3 0 0 | plan 2 0/1 3 10 10/2 3 9 9
 p6-impossible | refused 9
 p7 | plan 1 0/1 3 10 10
 p7-impossible | refused 9
 p8 | plan 0 0
 p9 | refused 1
 p10 | plan 2 10/1 3 0 5/2 3 0 5
-session | plan 9 1420/1 3 30 200/2 1 15 585/3 2 110 540/4 0 590 590/5 4 630 740/6 1 645 645/7 0 650 650/8 4 710 850/9 2 710 710
+session | plan 9 1420/1 3 30 200/2 1 15 585/3 2 110 540/4 0 590 590/5 4 630 740/6 1 645 645/7 0 650 650/8 4 710 850/9 2 710 710 | plan 9 1420/1 3 30 200/2 1 15 725/3 2 300 680/4 0 730 730/5 4 770 880/6 1 785 785/7 0 790 790/8 4 850 850/9 2 850 900
 CASES
 
 head -c 1048576 /dev/zero >"$work/ticket"
-prints 'a megabyte of zeros' 'refused 8'
+plans 'a megabyte of zeros' 'refused 8'
 
 # the longest ticket, 1,584 bytes, with the longest text; and one byte more
 {
@@ -75,9 +82,9 @@ prints 'a megabyte of zeros' 'refused 8'
 } >"$work/ticket"
 longest='plan 40 40000000'
 i=1; while [ $i -le 40 ]; do longest="$longest/$i 4 0 1000000"; i=$((i + 1)); done
-prints 'the longest ticket' "$longest"
+plans 'the longest ticket' "$longest"
 printf x >>"$work/ticket"
-prints 'the longest ticket and one byte more' 'refused 8'
+plans 'the longest ticket and one byte more' 'refused 8'
 
 # a gigabyte in 64 megabytes of memory: the program answers after 1,585 bytes, and the writer is not held up
 printf 'refused 8\n' >"$work/wanted"
@@ -93,6 +100,20 @@ same 'P1, a byte at a time' "$work/wanted" "$work/got"
 printf 'refused 1\n' >"$work/wanted"
 "$planner" <&- >"$work/got"
 same 'closed standard input' "$work/wanted" "$work/got"
+"$planner" latest <&- >"$work/got"
+same 'closed standard input, latest' "$work/wanted" "$work/got"
+
+# asked WORD..: words that the program does not know: a line on standard error and nothing on standard output
+asked() {
+    printf 'usage: planner [latest] <ticket\n' >"$work/wanted"
+    "$planner" "$@" <examples/tickets/p1.ticket >"$work/got" 2>"$work/errors"
+    same "asked '$*'" "$work/wanted" "$work/errors"
+    if [ -s "$work/got" ]; then fail "asked '$*': wrote to standard output"; else pass; fi
+}
+for word in earliest Latest late latest1 ' latest' -h ''; do asked "$word"; done
+asked latest latest
+asked latest ''
+asked '' latest
 
 # ---- the text tool
 
@@ -135,6 +156,9 @@ if [ $? -eq 1 ] && grep -q '^refused 4: .*(byte 6)' "$work/errors" && [ ! -s "$w
 "$planner" <examples/tickets/p1.ticket | tools/ticket explain >"$work/got"
 printf 'accepted: 2 events, total 6\nevent 1, camera: any tick from 5 to 10\nevent 2, lamps: any tick from 8 to 9\n' >"$work/wanted"
 same 'explain a plan' "$work/wanted" "$work/got"
+"$planner" latest <examples/tickets/p1.ticket | tools/ticket explain >"$work/got"
+printf 'accepted: 2 events, total 6\nevent 1, camera: any tick from 15 to 15\nevent 2, lamps: any tick from 13 to 19\n' >"$work/wanted"
+same 'explain a latest plan' "$work/wanted" "$work/got"
 "$planner" <examples/tickets/p9.ticket | tools/ticket explain >"$work/got" 2>"$work/errors"
 if [ $? -eq 1 ] && grep -q '^refused 1: the bytes end inside a field' "$work/errors"; then pass; else fail 'explain a refusal'; fi
 

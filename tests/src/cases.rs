@@ -3,7 +3,7 @@
 use crate::generate::{self, Structure, STRUCTURES};
 use crate::library::Library;
 use crate::model::calls::{self, Loose, LooseRecord};
-use crate::model::{reading, writing, Commitment, Record, Rule, Solver, Ticket};
+use crate::model::{reading, writing, Commitment, Prefer, Record, Rule, Solver, Ticket, BOTH};
 use crate::random::Random;
 use crate::trial::{Lengths, Report, Trial, ENOUGH};
 
@@ -13,7 +13,7 @@ pub enum Kind {
     Tiny,
     /// Tickets of all structures and sizes up to the largest, each planned and run to the end.
     Structures,
-    /// Long runs of commitments on largest tickets, refused ones mixed in.
+    /// Long runs of commitments on largest tickets, refused ones mixed in; half of them start with the latest plan.
     Runs,
     /// Records that no planning made.
     Foreign,
@@ -27,11 +27,15 @@ pub enum Kind {
     Values,
     /// Writing records with values that no record holds.
     Records,
-    /// What the program prints for tickets and other bytes.
+    /// What the program prints for tickets and other bytes, with and without the word `latest`.
     Text,
+    /// Latest plans of tickets of all structures and of damaged ones, and commitments on them.
+    Latest,
+    /// Latest plans of tiny tickets, expected answers by exhaustive search, which the model's flow has to give, too.
+    LatestTiny,
 }
 
-pub const KINDS: [Kind; 10] = [
+pub const KINDS: [Kind; 12] = [
     Kind::Tiny,
     Kind::Structures,
     Kind::Runs,
@@ -42,6 +46,8 @@ pub const KINDS: [Kind; 10] = [
     Kind::Values,
     Kind::Records,
     Kind::Text,
+    Kind::Latest,
+    Kind::LatestTiny,
 ];
 
 impl Kind {
@@ -57,6 +63,8 @@ impl Kind {
             Kind::Values => "values",
             Kind::Records => "records",
             Kind::Text => "text",
+            Kind::Latest => "latest",
+            Kind::LatestTiny => "latest-tiny",
         }
     }
 
@@ -67,16 +75,18 @@ impl Kind {
     /// The kind that a long run tries at this seed.
     pub fn at(seed: u64) -> Kind {
         match Random::new(seed ^ 0x6b69_6e64).below(1_000) {
-            0..=199 => Kind::Tiny,
-            200..=479 => Kind::Structures,
-            480..=559 => Kind::Runs,
-            560..=839 => Kind::Foreign,
-            840..=939 => Kind::Damaged,
-            940..=943 => Kind::Prefixes,
-            944..=946 => Kind::Lengths,
-            947..=969 => Kind::Values,
-            970..=996 => Kind::Records,
-            _ => Kind::Text,
+            0..=159 => Kind::Tiny,
+            160..=379 => Kind::Structures,
+            380..=449 => Kind::Runs,
+            450..=679 => Kind::Foreign,
+            680..=769 => Kind::Damaged,
+            770..=773 => Kind::Prefixes,
+            774..=776 => Kind::Lengths,
+            777..=799 => Kind::Values,
+            800..=826 => Kind::Records,
+            827..=829 => Kind::Text,
+            830..=949 => Kind::Latest,
+            _ => Kind::LatestTiny,
         }
     }
 
@@ -86,6 +96,7 @@ impl Kind {
             Kind::Values => &[0, 2, 3, 4, 5, 6, 7, 9, 10],
             Kind::Records => &[0, 2, 3, 4, 5, 6, 7, 10, 14],
             Kind::Text => &[0, 1, 2, 3, 4, 5, 6, 7, 8, 9],
+            Kind::Latest => &[0, 1, 2, 3, 4, 5, 6, 7, 8, 9, 10, 11, 12, 13],
             _ => &[],
         }
     }
@@ -105,17 +116,19 @@ pub fn run(kind: Kind, seed: u64, library: &dyn Library) -> Report {
         Kind::Values => values(&mut trial),
         Kind::Records => records(&mut trial),
         Kind::Text => text(&mut trial, seed),
+        Kind::Latest => latest(&mut trial, seed),
+        Kind::LatestTiny => latest_tiny(&mut trial),
     }
     trial.report
 }
 
-/// Table and both round trips of one ticket, then its plan.
-fn planned(trial: &mut Trial, ticket: &Ticket) -> Option<Vec<u8>> {
+/// Table and both round trips of one ticket, then its plan, or its latest one.
+fn planned(trial: &mut Trial, prefer: Prefer, ticket: &Ticket) -> Option<Vec<u8>> {
     let bytes = writing::ticket(ticket);
     let length = some_length(calls::TABLE, &mut trial.random);
     trial.table(ticket.horizon, ticket.events() as u32, &ticket.rules, length);
     trial.rewrite_ticket(&bytes, calls::TICKET);
-    let record = trial.plan(&bytes, ENOUGH);
+    let record = trial.plan(prefer, &bytes, ENOUGH);
     if let Some(record) = &record {
         trial.rewrite_record(record, calls::RECORD);
     }
@@ -152,7 +165,7 @@ fn commit_on(trial: &mut Trial, start: Vec<u8>, most: usize, refused: usize) {
 fn tiny(trial: &mut Trial) {
     trial.solver = Solver::Exhaustive;
     let ticket = generate::tiny(&mut trial.random);
-    if let Some(record) = planned(trial, &ticket) {
+    if let Some(record) = planned(trial, Prefer::Earliest, &ticket) {
         commit_on(trial, record, 6, 20);
     }
     let record = generate::foreign_record(ticket, &mut trial.random);
@@ -163,7 +176,7 @@ fn structures(trial: &mut Trial, seed: u64) {
     let (n, horizon) = generate::size(&mut trial.random);
     let structure = STRUCTURES[seed as usize % STRUCTURES.len()];
     let ticket = generate::ticket(structure, n, horizon, &mut trial.random);
-    if let Some(record) = planned(trial, &ticket) {
+    if let Some(record) = planned(trial, Prefer::Earliest, &ticket) {
         commit_on(trial, record, 6, 15);
     }
 }
@@ -176,11 +189,13 @@ fn runs(trial: &mut Trial) {
         Structure::Diamonds,
         Structure::Precedence,
         Structure::Ring,
+        Structure::Squeezed,
     ]);
     let n = trial.random.pick(&[10, 20, 40]);
     let horizon = trial.random.pick(&[40, 36_000, 1_000_000]);
     let ticket = generate::ticket(structure, n, horizon, &mut trial.random);
-    if let Some(record) = planned(trial, &ticket) {
+    let prefer = trial.random.pick(&BOTH);
+    if let Some(record) = planned(trial, prefer, &ticket) {
         commit_on(trial, record, 70, 30);
     }
 }
@@ -209,14 +224,17 @@ fn damaged(trial: &mut Trial) {
     for _ in 0..4 {
         let bytes = generate::damaged(&ticket, &mut trial.random);
         trial.rewrite_ticket(&bytes, calls::TICKET);
-        trial.plan(&bytes, ENOUGH);
+        let prefer = trial.random.pick(&BOTH);
+        trial.plan(prefer, &bytes, ENOUGH);
         let bytes = generate::damaged(&record_bytes, &mut trial.random);
         let commitment = generate::commitment(&record, &mut trial.random);
         trial.rewrite_record(&bytes, calls::RECORD);
         trial.commit(&bytes, commitment, ENOUGH);
     }
     // A record is no ticket, and a ticket no record.
-    trial.plan(&record_bytes, ENOUGH);
+    for prefer in BOTH {
+        trial.plan(prefer, &record_bytes, ENOUGH);
+    }
     trial.commit(&ticket, Commitment { event: 1, open: 0, close: 0 }, ENOUGH);
 }
 
@@ -229,7 +247,9 @@ fn prefixes(trial: &mut Trial) {
     let steps = 1 + ticket.len() / 200;
     for length in (0..=ticket.len()).rev().step_by(steps) {
         trial.rewrite_ticket(&ticket[..length], calls::TICKET);
-        trial.plan(&ticket[..length], ENOUGH);
+        for prefer in BOTH {
+            trial.plan(prefer, &ticket[..length], ENOUGH);
+        }
     }
     for length in (0..=bytes.len()).rev().step_by(steps) {
         trial.rewrite_record(&bytes[..length], calls::RECORD);
@@ -244,7 +264,9 @@ fn lengths(trial: &mut Trial) {
     let around = |limit: usize| limit - 3..=limit + 3;
     for out in around(calls::RECORD) {
         for scratch in around(calls::SCRATCH) {
-            trial.plan(&ticket, Lengths { out, scratch });
+            for prefer in BOTH {
+                trial.plan(prefer, &ticket, Lengths { out, scratch });
+            }
             trial.commit(&bytes, commitment, Lengths { out, scratch });
         }
         trial.rewrite_record(&bytes, out);
@@ -258,9 +280,11 @@ fn lengths(trial: &mut Trial) {
     }
     for out in [0, 1, bytes.len() - 1, bytes.len(), 4_000] {
         for scratch in [0, 1, 2_400, 20_000] {
-            trial.plan(&ticket, Lengths { out, scratch });
+            for prefer in BOTH {
+                trial.plan(prefer, &ticket, Lengths { out, scratch });
+                trial.plan(prefer, &[], Lengths { out, scratch });
+            }
             trial.commit(&bytes, commitment, Lengths { out, scratch });
-            trial.plan(&[], Lengths { out, scratch });
             trial.commit(&[], commitment, Lengths { out, scratch });
         }
         trial.rewrite_record(&bytes, out);
@@ -310,10 +334,40 @@ fn text(trial: &mut Trial, seed: u64) {
     longer.resize(random.pick(&[1_585, 1_586, 4_096, 70_000]), random.next() as u8);
     let length = random.below(ticket.len() + 1);
     let damaged = generate::damaged(&ticket, random);
-    for bytes in [&ticket, &longer, &damaged] {
-        trial.printed(bytes);
+    for prefer in BOTH {
+        for bytes in [&ticket[..], &longer, &damaged, &ticket[..length]] {
+            trial.printed(prefer, bytes);
+        }
     }
-    trial.printed(&ticket[..length]);
+}
+
+/// The latest plan of a ticket, again with other lengths, and of the ticket damaged; then commitments on the first.
+fn latest(trial: &mut Trial, seed: u64) {
+    let random = &mut trial.random;
+    let (n, horizon) = generate::size(random);
+    let structure = STRUCTURES[seed as usize % STRUCTURES.len()];
+    let ticket = writing::ticket(&generate::ticket(structure, n, horizon, random));
+    let damaged = generate::damaged(&ticket, random);
+    let lengths = some_lengths(random);
+    let most = random.pick(&[3, 6, 6, 20]);
+    let record = trial.plan(Prefer::Latest, &ticket, ENOUGH);
+    trial.plan(Prefer::Latest, &ticket, lengths);
+    trial.plan(Prefer::Latest, &damaged, ENOUGH);
+    if let Some(record) = record {
+        trial.rewrite_record(&record, calls::RECORD);
+        commit_on(trial, record, most, 15);
+    }
+}
+
+fn latest_tiny(trial: &mut Trial) {
+    let ticket = writing::ticket(&generate::tiny(&mut trial.random));
+    let searched = calls::plan(&ticket, Prefer::Latest, Solver::Exhaustive);
+    let solved = calls::plan(&ticket, Prefer::Latest, Solver::Flow);
+    trial.expect(searched == solved, "the model's two ways", || format!("searched {searched:?}, by flow {solved:?}"));
+    trial.solver = Solver::Exhaustive;
+    if let Some(record) = trial.plan(Prefer::Latest, &ticket, ENOUGH) {
+        commit_on(trial, record, 4, 20);
+    }
 }
 
 /// What a ticket is made of, not all of it in range.

@@ -1,8 +1,11 @@
 //! Libraries with one planted fault each. The self-check has the quick part find every one of them.
 
 use crate::library::{self, Library, Model};
+use crate::mirror;
 use crate::model::calls::{self, Answer, Loose, LooseRecord, Outcome};
-use crate::model::{distances, reading, text, writing, Commitment, Range, Record, Rule, Solver, Ticket, Window};
+use crate::model::{
+    distances, reading, text, writing, Commitment, Prefer, Range, Record, Rule, Solver, Ticket, Window,
+};
 
 #[derive(Clone, Copy, Debug, PartialEq, Eq)]
 pub enum Fault {
@@ -54,9 +57,29 @@ pub enum Fault {
     PrintsFromZero,
     /// Whether the window lies inside is looked at before whether the event is committed.
     InsideFirst,
+    /// The plan where the latest one is asked for.
+    EarliestForLatest,
+    /// Latest opens with earliest closes, where these are not before them.
+    LatestOpensOnly,
+    /// Latest plan by the mirror, whose opens are taken for opens and closes for closes.
+    EndsNotExchanged,
+    /// Latest plan by a mirror in which the rules of session start keep their bounds.
+    MirrorWithoutHorizon,
+    /// Latest plan by a mirror whose bounds are cut to a ticket's range.
+    MirrorCut,
+    /// Latest plan refused with 7 where a bound of the mirror passes a ticket's range.
+    MirrorRefused,
+    /// A C door that gives the plan where the latest one is asked for.
+    EarliestDoor,
+    /// Scratch stays as it is after a latest plan.
+    LatestDirtyScratch,
+    /// A commitment prefers the latest.
+    CommitsLatest,
+    /// The program overlooks the word `latest`.
+    PrintsEarliest,
 }
 
-pub const FAULTS: [Fault; 24] = [
+pub const FAULTS: [Fault; 34] = [
     Fault::RefusesAll,
     Fault::OnePlan,
     Fault::Silent,
@@ -81,24 +104,54 @@ pub const FAULTS: [Fault; 24] = [
     Fault::WritesLateWindow,
     Fault::PrintsFromZero,
     Fault::InsideFirst,
+    Fault::EarliestForLatest,
+    Fault::LatestOpensOnly,
+    Fault::EndsNotExchanged,
+    Fault::MirrorWithoutHorizon,
+    Fault::MirrorCut,
+    Fault::MirrorRefused,
+    Fault::EarliestDoor,
+    Fault::LatestDirtyScratch,
+    Fault::CommitsLatest,
+    Fault::PrintsEarliest,
 ];
 
 pub struct Faulty {
     pub fault: Fault,
 }
 
-/// The latest of the widest plans: the earliest one when time runs backwards.
-fn latest(ticket: &Ticket) -> Option<Vec<Window>> {
-    let h = ticket.horizon as i32;
-    let turned = |r: &Rule| match (r.from, r.to) {
-        (0, to) => Rule { from: to, to: 0, bound: r.bound - h },
-        (from, 0) => Rule { from: 0, to: from, bound: r.bound + h },
-        (from, to) => Rule { from: to, to: from, bound: r.bound },
+fn best(ticket: &Ticket, prefer: Prefer) -> Option<Vec<Window>> {
+    ticket.best(&ticket.any_windows(), prefer, Solver::Flow)
+}
+
+const FARTHEST: i32 = 1_000_000;
+
+/// The latest plan by a mirror with this fault.
+fn by_mirror(ticket: &Ticket, fault: Fault) -> Option<Vec<Window>> {
+    let mut mirror = mirror::ticket(ticket);
+    for (rule, old) in mirror.rules.iter_mut().zip(&ticket.rules) {
+        match fault {
+            Fault::MirrorWithoutHorizon => rule.bound = old.bound,
+            Fault::MirrorCut => rule.bound = rule.bound.clamp(-FARTHEST, FARTHEST),
+            _ => {}
+        }
+    }
+    let windows = best(&mirror, Prefer::Earliest)?;
+    let h = ticket.horizon;
+    Some(match fault {
+        Fault::EndsNotExchanged => windows.iter().map(|w| Window { open: h - w.open, close: h - w.close }).collect(),
+        _ => mirror::windows(h, &windows),
+    })
+}
+
+/// Latest opens with earliest closes, or the latest window where that is none.
+fn latest_opens(ticket: &Ticket) -> Option<Vec<Window>> {
+    let (earliest, latest) = (best(ticket, Prefer::Earliest)?, best(ticket, Prefer::Latest)?);
+    let mixed = |(early, late): (&Window, &Window)| Window {
+        open: late.open,
+        close: if late.open <= early.close { early.close } else { late.close },
     };
-    let mirror = Ticket { rules: ticket.rules.iter().map(turned).collect(), ..ticket.clone() };
-    let windows = mirror.best(&mirror.any_windows(), Solver::Flow)?;
-    let back = |w: &Window| Window { open: ticket.horizon - w.close, close: ticket.horizon - w.open };
-    Some(windows.iter().map(back).collect())
+    Some(earliest.iter().zip(&latest).map(mixed).collect())
 }
 
 fn earliest_to_latest(ticket: &Ticket) -> Option<Vec<Window>> {
@@ -157,16 +210,40 @@ fn bound_first(bytes: &[u8], number: u32) -> u32 {
 }
 
 impl Faulty {
-    fn planned(&self, bytes: &[u8]) -> Outcome {
+    /// A latest plan with a fault of its own; none if the fault is in all plans or in none.
+    fn latest(&self, bytes: &[u8]) -> Option<Outcome> {
+        let ticket = match reading::ticket(bytes) {
+            Ok(ticket) => ticket,
+            Err(number) => return Some(Err(number)),
+        };
+        let windows = match self.fault {
+            Fault::EarliestForLatest => best(&ticket, Prefer::Earliest),
+            Fault::LatestOpensOnly => latest_opens(&ticket),
+            Fault::EndsNotExchanged | Fault::MirrorWithoutHorizon | Fault::MirrorCut => by_mirror(&ticket, self.fault),
+            Fault::MirrorRefused => {
+                let far = |rule: &Rule| rule.bound.abs() > FARTHEST;
+                return mirror::ticket(&ticket).rules.iter().any(far).then_some(Err(7));
+            }
+            _ => return None,
+        };
+        Some(windows.ok_or(9u32).map(|windows| {
+            let total = ticket.total(&windows);
+            (Record::new(ticket, windows), total)
+        }))
+    }
+
+    fn planned(&self, prefer: Prefer, bytes: &[u8]) -> Outcome {
         let bytes = if self.fault == Fault::BytesAfter { ticket_prefix(bytes) } else { bytes };
-        let (mut record, mut total) = library::planned(bytes).map_err(|number| match self.fault {
+        let special = if prefer == Prefer::Latest { self.latest(bytes) } else { None };
+        let outcome = special.unwrap_or_else(|| library::planned(prefer, bytes));
+        let (mut record, mut total) = outcome.map_err(|number| match self.fault {
             Fault::BoundFirst => bound_first(bytes, number),
             _ => number,
         })?;
         match self.fault {
             Fault::RefusesAll => return Err(9),
             Fault::OnePlan => record.windows.fill(Window { open: 0, close: 0 }),
-            Fault::LatestPlan => record.windows = latest(&record.ticket).ok_or(9u32)?,
+            Fault::LatestPlan => record.windows = best(&record.ticket, Prefer::Latest).ok_or(9u32)?,
             Fault::EarliestToLatest => {
                 record.windows = earliest_to_latest(&record.ticket).ok_or(9u32)?;
                 total = record.ticket.total(&record.windows);
@@ -204,6 +281,12 @@ impl Faulty {
             (Fault::MiddleTicks, Err(15), Ok(former)) if middles_fit(&former) => {
                 let total = former.ticket.total(&former.windows);
                 Ok((former, total))
+            }
+            (Fault::CommitsLatest, Ok((mut record, total)), Ok(former)) => {
+                let ranges = former.ranges_after(commitment);
+                let windows = former.ticket.best(&ranges, Prefer::Latest, Solver::Flow);
+                record.windows = windows.unwrap_or(record.windows);
+                Ok((record, total))
             }
             (Fault::InsideFirst, Err(12), Ok(former)) => {
                 let window = former.windows[commitment.event as usize - 1];
@@ -258,7 +341,7 @@ fn afresh(mut record: Record) -> (Record, i64) {
             *range = Range { open: (window.open, window.open), close: (window.close, window.close) };
         }
     }
-    if let Some(windows) = record.ticket.best(&ranges, Solver::Flow) {
+    if let Some(windows) = record.ticket.best(&ranges, Prefer::Earliest, Solver::Flow) {
         record.windows = windows;
     }
     let total = record.ticket.total(&record.windows);
@@ -296,16 +379,22 @@ fn from_zero(text: String) -> String {
 }
 
 impl Library for Faulty {
-    fn plan_door(&self, ticket: &[u8], out: &mut [u8]) -> u32 {
-        self.delivered(|| self.planned(ticket), out, &mut vec![0; calls::SCRATCH]).number
+    fn plan_door(&self, prefer: Prefer, ticket: &[u8], out: &mut [u8]) -> u32 {
+        let prefer = if self.fault == Fault::EarliestDoor { Prefer::Earliest } else { prefer };
+        self.delivered(|| self.planned(prefer, ticket), out, &mut vec![0; calls::SCRATCH]).number
     }
 
     fn commit_door(&self, record: &[u8], commitment: Commitment, out: &mut [u8]) -> u32 {
         self.delivered(|| self.committed(record, commitment), out, &mut vec![0; calls::SCRATCH]).number
     }
 
-    fn plan(&self, ticket: &[u8], out: &mut [u8], scratch: &mut [u32]) -> Answer {
-        self.delivered(|| self.planned(ticket), out, scratch)
+    fn plan(&self, prefer: Prefer, ticket: &[u8], out: &mut [u8], scratch: &mut [u32]) -> Answer {
+        let before = scratch.to_vec();
+        let answer = self.delivered(|| self.planned(prefer, ticket), out, scratch);
+        if self.fault == Fault::LatestDirtyScratch && prefer == Prefer::Latest {
+            scratch.copy_from_slice(&before);
+        }
+        answer
     }
 
     fn commit(&self, record: &[u8], commitment: Commitment, out: &mut [u8], scratch: &mut [u32]) -> Answer {
@@ -364,8 +453,9 @@ impl Library for Faulty {
         }
     }
 
-    fn printed(&self, ticket: &[u8]) -> String {
-        let text = text::printed(&self.planned(ticket));
+    fn printed(&self, prefer: Prefer, ticket: &[u8]) -> String {
+        let prefer = if self.fault == Fault::PrintsEarliest { Prefer::Earliest } else { prefer };
+        let text = text::printed(&self.planned(prefer, ticket));
         if self.fault == Fault::PrintsFromZero {
             from_zero(text)
         } else {

@@ -23,9 +23,11 @@ pub enum Structure {
     Single,
     /// Bounds and horizon at the ends of their ranges.
     Ends,
+    /// Events between two others that keep a distance: when those between have committed, either of the two may widen.
+    Squeezed,
 }
 
-pub const STRUCTURES: [Structure; 9] = [
+pub const STRUCTURES: [Structure; 10] = [
     Structure::Session,
     Structure::Hidden,
     Structure::Chain,
@@ -35,6 +37,7 @@ pub const STRUCTURES: [Structure; 9] = [
     Structure::Drawn,
     Structure::Single,
     Structure::Ends,
+    Structure::Squeezed,
 ];
 
 const MOST_RULES: usize = 256;
@@ -78,6 +81,7 @@ pub fn ticket(structure: Structure, n: usize, horizon: u32, random: &mut Random)
             horizon = random.pick(&[0, 1, 999_999, 1_000_000]);
             ends(&mut rules, n, random);
         }
+        Structure::Squeezed => squeezed(&mut rules, n, h, random),
     }
     let owners = (0..n).map(|k| owner(structure, k, random)).collect();
     let order = random.order(rules.list.len());
@@ -204,6 +208,20 @@ fn ends(rules: &mut Rules, n: usize, random: &mut Random) {
         let (i, j) = (random.below(n + 1), random.below(n + 1));
         let bound = random.pick(&[FARTHEST, FARTHEST, FARTHEST - 1, 0, 0, 1, -1, -FARTHEST]);
         rules.at_most(i, j, bound);
+    }
+}
+
+fn squeezed(rules: &mut Rules, n: usize, h: i64, random: &mut Random) {
+    let mut first = 1;
+    while first + 2 <= n {
+        let last = (first + random.pick(&[2, 3, 3, 4])).min(n);
+        for event in first + 1..last {
+            rules.at_most(event, first, 0);
+            rules.at_most(last, event, 0);
+        }
+        let least = random.between(0, h);
+        rules.between(first, last, least, random.between(least, h));
+        first = last + 1;
     }
 }
 

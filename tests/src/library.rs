@@ -1,15 +1,15 @@
 //! The functions under test, behind one trait: the linked library, or the model standing in for it.
 
 use crate::model::calls::{self, Answer, Loose, LooseRecord, Outcome};
-use crate::model::{text, Commitment, Rule, Solver};
+use crate::model::{text, Commitment, Prefer, Rule, Solver};
 
 pub trait Library: Sync {
-    /// The two C doors on bytes: the refusal number only.
-    fn plan_door(&self, ticket: &[u8], out: &mut [u8]) -> u32;
+    /// The C doors on bytes: the refusal number only. Planning is the plan or, where the latest is preferred, the latest plan.
+    fn plan_door(&self, prefer: Prefer, ticket: &[u8], out: &mut [u8]) -> u32;
     fn commit_door(&self, record: &[u8], commitment: Commitment, out: &mut [u8]) -> u32;
 
     /// Planning and commitment with lent scratch.
-    fn plan(&self, ticket: &[u8], out: &mut [u8], scratch: &mut [u32]) -> Answer;
+    fn plan(&self, prefer: Prefer, ticket: &[u8], out: &mut [u8], scratch: &mut [u32]) -> Answer;
     fn commit(&self, record: &[u8], commitment: Commitment, out: &mut [u8], scratch: &mut [u32]) -> Answer;
 
     /// The C door of the table.
@@ -23,15 +23,15 @@ pub trait Library: Sync {
     fn write_ticket(&self, loose: &Loose, out: &mut [u8]) -> (u32, u32);
     fn write_record(&self, loose: &LooseRecord, out: &mut [u8]) -> (u32, u32);
 
-    /// What the program prints for these bytes.
-    fn printed(&self, ticket: &[u8]) -> String;
+    /// What the program prints for these bytes, with the word `latest` where that is preferred.
+    fn printed(&self, prefer: Prefer, ticket: &[u8]) -> String;
 }
 
 /// The model as a library. A faulty library overrides `planned`, `committed` and the rest.
 pub struct Model;
 
-pub fn planned(ticket: &[u8]) -> Outcome {
-    calls::plan(ticket, Solver::Flow)
+pub fn planned(prefer: Prefer, ticket: &[u8]) -> Outcome {
+    calls::plan(ticket, prefer, Solver::Flow)
 }
 
 pub fn committed(record: &[u8], commitment: Commitment) -> Outcome {
@@ -39,16 +39,16 @@ pub fn committed(record: &[u8], commitment: Commitment) -> Outcome {
 }
 
 impl Library for Model {
-    fn plan_door(&self, ticket: &[u8], out: &mut [u8]) -> u32 {
-        calls::deliver(|| planned(ticket), out, &mut vec![0; calls::SCRATCH]).number
+    fn plan_door(&self, prefer: Prefer, ticket: &[u8], out: &mut [u8]) -> u32 {
+        calls::deliver(|| planned(prefer, ticket), out, &mut vec![0; calls::SCRATCH]).number
     }
 
     fn commit_door(&self, record: &[u8], commitment: Commitment, out: &mut [u8]) -> u32 {
         calls::deliver(|| committed(record, commitment), out, &mut vec![0; calls::SCRATCH]).number
     }
 
-    fn plan(&self, ticket: &[u8], out: &mut [u8], scratch: &mut [u32]) -> Answer {
-        calls::deliver(|| planned(ticket), out, scratch)
+    fn plan(&self, prefer: Prefer, ticket: &[u8], out: &mut [u8], scratch: &mut [u32]) -> Answer {
+        calls::deliver(|| planned(prefer, ticket), out, scratch)
     }
 
     fn commit(&self, record: &[u8], commitment: Commitment, out: &mut [u8], scratch: &mut [u32]) -> Answer {
@@ -75,7 +75,7 @@ impl Library for Model {
         calls::write_record(loose, out)
     }
 
-    fn printed(&self, ticket: &[u8]) -> String {
-        text::printed(&planned(ticket))
+    fn printed(&self, prefer: Prefer, ticket: &[u8]) -> String {
+        text::printed(&planned(prefer, ticket))
     }
 }

@@ -2,7 +2,7 @@
 
 use crate::library::Library;
 use crate::model::calls::{Answer, Loose, LooseRecord};
-use crate::model::{Commitment, Rule};
+use crate::model::{Commitment, Prefer, Rule};
 use std::io::Write;
 use std::process::{Command, Stdio};
 
@@ -16,6 +16,7 @@ struct LentRule {
 
 extern "C" {
     fn beyunlak_plan(ticket: *const u8, ticket_len: usize, out: *mut u8, out_len: usize) -> u32;
+    fn beyunlak_plan_latest(ticket: *const u8, ticket_len: usize, out: *mut u8, out_len: usize) -> u32;
     fn beyunlak_commit(
         record: *const u8,
         record_len: usize,
@@ -34,6 +35,16 @@ extern "C" {
         out_len: usize,
     ) -> u32;
     fn harness_plan(
+        ticket: *const u8,
+        ticket_len: usize,
+        out: *mut u8,
+        out_len: usize,
+        scratch: *mut u32,
+        scratch_len: usize,
+        length: *mut u32,
+        total: *mut u32,
+    ) -> u32;
+    fn harness_plan_latest(
         ticket: *const u8,
         ticket_len: usize,
         out: *mut u8,
@@ -115,8 +126,11 @@ extern "C" {
 const PLANNER: &str = "target/bin/planner";
 
 /// What the program prints: standard output, then standard error, which has to stay empty, and a status that is not 0.
-fn run_planner(ticket: &[u8]) -> std::io::Result<String> {
+fn run_planner(prefer: Prefer, ticket: &[u8]) -> std::io::Result<String> {
     let mut command = Command::new(PLANNER);
+    if prefer == Prefer::Latest {
+        command.arg("latest");
+    }
     let mut program = command.stdin(Stdio::piped()).stdout(Stdio::piped()).stderr(Stdio::piped()).spawn()?;
     // The program stops reading after the longest ticket and a byte: what it leaves in the pipe is no error.
     let _ = program.stdin.take().map(|mut pipe| pipe.write_all(ticket));
@@ -135,8 +149,12 @@ const UNWRITTEN: u32 = 0xdead_beef;
 pub struct Linked;
 
 impl Library for Linked {
-    fn plan_door(&self, ticket: &[u8], out: &mut [u8]) -> u32 {
-        unsafe { beyunlak_plan(ticket.as_ptr(), ticket.len(), out.as_mut_ptr(), out.len()) }
+    fn plan_door(&self, prefer: Prefer, ticket: &[u8], out: &mut [u8]) -> u32 {
+        let plan = match prefer {
+            Prefer::Earliest => beyunlak_plan,
+            Prefer::Latest => beyunlak_plan_latest,
+        };
+        unsafe { plan(ticket.as_ptr(), ticket.len(), out.as_mut_ptr(), out.len()) }
     }
 
     fn commit_door(&self, record: &[u8], c: Commitment, out: &mut [u8]) -> u32 {
@@ -144,10 +162,14 @@ impl Library for Linked {
         unsafe { beyunlak_commit(bytes, length, c.event, c.open, c.close, out.as_mut_ptr(), out.len()) }
     }
 
-    fn plan(&self, ticket: &[u8], out: &mut [u8], scratch: &mut [u32]) -> Answer {
+    fn plan(&self, prefer: Prefer, ticket: &[u8], out: &mut [u8], scratch: &mut [u32]) -> Answer {
+        let plan = match prefer {
+            Prefer::Earliest => harness_plan,
+            Prefer::Latest => harness_plan_latest,
+        };
         let (mut length, mut total) = (UNWRITTEN, UNWRITTEN);
         let number = unsafe {
-            harness_plan(
+            plan(
                 ticket.as_ptr(),
                 ticket.len(),
                 out.as_mut_ptr(),
@@ -255,7 +277,7 @@ impl Library for Linked {
         (number, length)
     }
 
-    fn printed(&self, ticket: &[u8]) -> String {
-        run_planner(ticket).unwrap_or_else(|error| format!("{PLANNER}: {error}"))
+    fn printed(&self, prefer: Prefer, ticket: &[u8]) -> String {
+        run_planner(prefer, ticket).unwrap_or_else(|error| format!("{PLANNER}: {error}"))
     }
 }

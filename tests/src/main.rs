@@ -7,6 +7,7 @@ mod lent;
 mod library;
 #[cfg(linked)]
 mod linked;
+mod mirror;
 mod model;
 mod random;
 mod solvers;
@@ -22,7 +23,7 @@ use std::time::Instant;
 use trial::Report;
 
 /// How many seeds of each kind the quick part tries.
-const QUICK: [(Kind, u64); 10] = [
+const QUICK: [(Kind, u64); 12] = [
     (Kind::Tiny, 4_000),
     (Kind::Structures, 3_600),
     (Kind::Runs, 150),
@@ -33,13 +34,16 @@ const QUICK: [(Kind, u64); 10] = [
     (Kind::Values, 4_000),
     (Kind::Records, 4_000),
     (Kind::Text, 150),
+    (Kind::Latest, 1_800),
+    (Kind::LatestTiny, 3_000),
 ];
 
 const USAGE: &str = "\
 tests/run quick                      stored cases and some thousand seeds: the gate's part
 tests/run long SEED COUNT [THREADS]  seeds from SEED on until COUNT calls are made
 tests/run one KIND SEED              one case: tiny structures runs foreign damaged prefixes lengths values records text
-tests/run solvers SEED COUNT         the two solvers of the model against each other
+                                     latest latest-tiny
+tests/run solvers SEED COUNT         the solvers of the model against each other
 tests/run self-check                 libraries with a planted fault: each has to be caught";
 
 #[cfg(linked)]
@@ -160,8 +164,10 @@ fn quick(library: &dyn Library) -> i32 {
     println!("solvers of the model: {agreed} tickets and records");
     all.add("solvers", Report { differences, ..Report::default() });
     for (kind, count) in QUICK {
+        let begun = Instant::now();
         let mut tally = try_seeds(library, 1..count + 1, 2, |_| kind);
-        println!("{}: {} cases, {} calls, {} failed", kind.name(), count, tally.calls, tally.failed);
+        let seconds = begun.elapsed().as_secs_f64();
+        println!("{}: {count} cases, {} calls, {} failed, {seconds:.1} s", kind.name(), tally.calls, tally.failed);
         if !kind.numbers().is_empty() {
             println!("{}, {}", kind.name(), tally.numbers_line());
             tally.reached(kind.name(), kind.numbers());
@@ -244,7 +250,7 @@ fn one(library: &dyn Library, kind: &str, seed: u64) -> i32 {
 fn compare_solvers(seed: u64, count: u64) -> i32 {
     let mut all = Tally::default();
     let (agreed, differences) = solvers::compare(seed, count);
-    println!("{agreed} tickets and records by both solvers");
+    println!("{agreed} tickets and records by the solvers of the model");
     all.add("solvers", Report { differences, ..Report::default() });
     all.last_line()
 }

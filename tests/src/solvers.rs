@@ -1,9 +1,11 @@
 //! The model against itself: exhaustive search and flow on tiny tickets and records, tables by enumeration
-//! and by shortest paths, and bytes that come back from reading and writing.
+//! and by shortest paths, the latest plan against the mirror of 02 on tickets of all sizes, and bytes that come back
+//! from reading and writing.
 
-use crate::generate;
+use crate::generate::{self, STRUCTURES};
+use crate::mirror;
 use crate::model::calls::{self, Outcome};
-use crate::model::{distances, exhaustive, reading, writing, Solver};
+use crate::model::{distances, exhaustive, reading, writing, Prefer, Solver, Ticket, BOTH};
 use crate::random::Random;
 
 fn same(seed: u64, what: &str, by: impl Fn(Solver) -> Outcome, differences: &mut Vec<String>) {
@@ -13,7 +15,20 @@ fn same(seed: u64, what: &str, by: impl Fn(Solver) -> Outcome, differences: &mut
     }
 }
 
-/// How many tickets and records were tried, and where the two differ.
+/// The latest plan by distances from session start in the residual network against that by mirroring, and the mirror of the
+/// mirror against the ticket.
+fn mirrored(seed: u64, ticket: &Ticket, differences: &mut Vec<String>) {
+    let by_flow = ticket.best(&ticket.any_windows(), Prefer::Latest, Solver::Flow);
+    let by_mirror = mirror::latest(ticket);
+    if by_flow != by_mirror {
+        differences.push(format!("latest plan at seed {seed}: by flow {by_flow:?}, by mirror {by_mirror:?}"));
+    }
+    if mirror::ticket(&mirror::ticket(ticket)) != *ticket {
+        differences.push(format!("mirrored twice at seed {seed}"));
+    }
+}
+
+/// How many tickets and records were tried, and where the ways differ.
 pub fn compare(first: u64, count: u64) -> (u64, Vec<String>) {
     let mut differences = Vec::new();
     let mut tried = 0;
@@ -21,7 +36,10 @@ pub fn compare(first: u64, count: u64) -> (u64, Vec<String>) {
         let random = &mut Random::new(seed);
         let ticket = generate::tiny(random);
         let bytes = writing::ticket(&ticket);
-        same(seed, "plan", |solver| calls::plan(&bytes, solver), &mut differences);
+        for prefer in BOTH {
+            same(seed, "plan", |solver| calls::plan(&bytes, prefer, solver), &mut differences);
+        }
+        mirrored(seed, &ticket, &mut differences);
         if exhaustive::table(&ticket) != distances::table(&ticket) {
             differences.push(format!("table at seed {seed}"));
         }
@@ -41,7 +59,10 @@ pub fn compare(first: u64, count: u64) -> (u64, Vec<String>) {
                 record = next;
             }
         }
-        tried += 1;
+        let (n, horizon) = generate::size(random);
+        let structure = STRUCTURES[seed as usize % STRUCTURES.len()];
+        mirrored(seed, &generate::ticket(structure, n, horizon, random), &mut differences);
+        tried += 2;
     }
     (tried, differences)
 }

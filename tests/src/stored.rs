@@ -1,15 +1,15 @@
-//! Cases with known answers: the examples of 01, and instances from the five source documents.
+//! Cases with known answers: the examples of 01, what 02 makes of them, and instances from the five source documents.
 //! Each is also compared with the model. "Says" lines are the source's statement, in our words.
 
 use crate::library::Library;
 use crate::model::calls;
-use crate::model::{reading, writing, Commitment, Record, Rule, Solver, Ticket, Window};
-use crate::trial::{Report, Trial, ENOUGH};
+use crate::model::{reading, writing, Commitment, Prefer, Record, Rule, Solver, Ticket, Window, BOTH};
+use crate::trial::{Lengths, Report, Trial, ENOUGH};
 
 /// A name and what it tries.
 type Case = (&'static str, fn(&mut Stored));
 
-pub const CASES: [Case; 20] = [
+pub const CASES: [Case; 27] = [
     ("01, P1 and P2", example_1_2),
     ("01, P3", example_3),
     ("01, P4 and P5", example_4_5),
@@ -18,6 +18,13 @@ pub const CASES: [Case; 20] = [
     ("01, P8 and P9", example_8_9),
     ("01, P10", example_10),
     ("01, both sides of the limits", both_sides),
+    ("02, change 1: P1's latest plan", latest_1),
+    ("02, change 1: a commitment on P1's latest plan", latest_then_commitment),
+    ("02, change 1: commitments on a latest plan prefer the earliest", latest_then_earliest),
+    ("02, change 1: latest plans of P4 to P10", latest_4_to_10),
+    ("02, change 1: latest plan of a session", latest_session),
+    ("02, change 1: mirrors past a ticket's range", latest_past_the_range),
+    ("02, change 1: refusals of the latest plan", latest_refusals),
     ("000, examples 1 and 2: trains", trains),
     ("000, example 3: earliest to latest", trains_earliest_to_latest),
     ("000, examples 4 to 6: a train commits", trains_commitment),
@@ -69,10 +76,18 @@ impl Stored<'_> {
     }
 
     fn plan(&mut self, ticket: &Ticket) -> Option<Vec<u8>> {
+        self.preferred(Prefer::Earliest, ticket)
+    }
+
+    fn plan_latest(&mut self, ticket: &Ticket) -> Option<Vec<u8>> {
+        self.preferred(Prefer::Latest, ticket)
+    }
+
+    fn preferred(&mut self, prefer: Prefer, ticket: &Ticket) -> Option<Vec<u8>> {
         let bytes = writing::ticket(ticket);
         let tiny = ticket.events() <= 3 && ticket.horizon <= 10;
         self.trial.rewrite_ticket(&bytes, calls::TICKET);
-        self.both_solvers(tiny, |trial| trial.plan(&bytes, ENOUGH))
+        self.both_solvers(tiny, |trial| trial.plan(prefer, &bytes, ENOUGH))
     }
 
     fn commit(&mut self, record: &[u8], event: u32, open: u32, close: u32) -> Option<Vec<u8>> {
@@ -95,11 +110,13 @@ impl Stored<'_> {
         self.says(record.is_none(), what);
     }
 
-    /// The number that planning gives, by the model; the library was compared with it.
+    /// The number that planning and the latest plan give, by the model; the library was compared with it.
     fn number(&mut self, bytes: &[u8], number: u32, what: &str) {
-        self.trial.plan(bytes, ENOUGH);
-        let given = calls::plan(bytes, Solver::Flow).err().unwrap_or(0);
-        self.says(given == number, what);
+        for prefer in BOTH {
+            self.trial.plan(prefer, bytes, ENOUGH);
+            let given = calls::plan(bytes, prefer, Solver::Flow).err().unwrap_or(0);
+            self.says(given == number, what);
+        }
     }
 
     fn table(&mut self, ticket: &Ticket) -> Vec<Vec<i32>> {
@@ -183,6 +200,109 @@ fn both_sides(case: &mut Stored) {
     case.number(&writing::ticket(&with_bound(-1_000_001)), 7, "a bound below the least");
     case.number(&writing::ticket(&with_bound(1_000_000)), 0, "greatest bound");
     case.number(&writing::ticket(&with_bound(1_000_001)), 7, "a bound above the greatest");
+}
+
+fn latest_1(case: &mut Stored) {
+    let plan = case.plan_latest(&two_trains());
+    case.windows(&plan, &[(15, 15), (13, 19)], "P1's latest plan");
+    case.width(&plan, 6, "total of P1's latest plan");
+}
+
+/// On P1's latest plan P3 of 01 goes on.
+fn latest_then_commitment(case: &mut Stored) {
+    let plan = case.plan_latest(&two_trains());
+    let after = plan.and_then(|bytes| case.commit(&bytes, 2, 13, 13));
+    case.windows(&after, &[(9, 15), (13, 13)], "a commitment on P1's latest plan");
+}
+
+/// Says: commitments on a record made this way still prefer the earliest. Events 3 and 4 come after event 2 and before
+/// event 1, which comes 2 to 10 ticks after event 2. When the first of them commits, nothing widens; when the second
+/// does, the other two get 5 ticks: as wide as 7..12 and 2..5 are 8..12 and 2..6, and 9..12 and 2..7.
+fn latest_then_earliest(case: &mut Stored) {
+    let ticket = ticket(12, &[2, 2, 0, 3], &[(1, 3, 0), (1, 4, 0), (3, 2, 0), (4, 2, 0), (1, 2, -2), (2, 1, 10)]);
+    let plan = case.plan(&ticket);
+    case.windows(&plan, &[(10, 10), (0, 0), (0, 10), (0, 10)], "the plan");
+    let latest = case.plan_latest(&ticket);
+    case.windows(&latest, &[(12, 12), (2, 2), (2, 12), (2, 12)], "the latest plan");
+    let first = latest.and_then(|bytes| case.commit(&bytes, 3, 7, 7));
+    case.windows(&first, &[(12, 12), (2, 2), (7, 7), (2, 12)], "the first commitment on the latest plan");
+    let second = first.and_then(|bytes| case.commit(&bytes, 4, 7, 7));
+    case.windows(&second, &[(7, 12), (2, 5), (7, 7), (7, 7)], "the second commitment on the latest plan");
+}
+
+fn latest_4_to_10(case: &mut Stored) {
+    let plan = case.plan_latest(&three_in_sequence());
+    case.windows(&plan, &[(5, 5), (5, 5), (0, 5)], "P4's latest plan");
+    let plan = case.plan_latest(&ticket(10, &[3, 3], &[(1, 2, -1), (2, 1, 1)]));
+    case.windows(&plan, &[(10, 10), (9, 9)], "P6's latest plan");
+    let plan = case.plan_latest(&ticket(10, &[3, 3], &[(1, 2, -1), (2, 1, 0)]));
+    case.refused(&plan, "P6 with bound 0, latest");
+    let plan = case.plan_latest(&ticket(10, &[3], &[(1, 0, -10)]));
+    case.windows(&plan, &[(10, 10)], "P7's latest plan");
+    let plan = case.plan_latest(&ticket(10, &[3], &[(1, 0, -11)]));
+    case.refused(&plan, "P7 with bound -11, latest");
+    let plan = case.plan_latest(&ticket(0, &[], &[]));
+    case.windows(&plan, &[], "P8's latest plan");
+    let plan = case.plan_latest(&ticket(5, &[3, 3], &[]));
+    case.windows(&plan, &[(0, 5), (0, 5)], "P10's latest plan");
+}
+
+/// The ticket of the repository that has all five devices.
+fn latest_session(case: &mut Stored) {
+    let bytes = include_bytes!("../../examples/tickets/session.ticket");
+    let Ok(session) = reading::ticket(bytes) else { return case.says(false, "the session's ticket is read") };
+    let plan = case.plan(&session);
+    case.width(&plan, 1_420, "total of the session's plan");
+    let plan = case.plan_latest(&session);
+    case.windows(&plan, &SESSION, "the session's latest plan");
+    case.width(&plan, 1_420, "total of the session's latest plan");
+}
+
+/// The second image is stored, and the lamps go out, when the next session needs the rig; all else goes back from there.
+const SESSION: [(u32, u32); 9] =
+    [(30, 200), (15, 725), (300, 680), (730, 730), (770, 880), (785, 785), (790, 790), (850, 850), (850, 900)];
+
+/// Says: a bound may pass a ticket's range in the mirror. None of these tickets is refused for that.
+fn latest_past_the_range(case: &mut Stored) {
+    let plan = case.plan_latest(&ticket(1_000_000, &[3], &[(1, 0, 1)]));
+    case.windows(&plan, &[(0, 1_000_000)], "1,000,001 in the mirror");
+    let far = ticket(1_000_000, &[3, 3], &[(1, 0, 1_000_000), (0, 1, 1_000_000), (1, 2, -1_000_000)]);
+    let plan = case.plan_latest(&far);
+    case.windows(&plan, &[(1_000_000, 1_000_000), (0, 0)], "2,000,000 in the mirror");
+    let bytes = writing::ticket(&ticket(1_000_000, &[3], &[(0, 1, -1)]));
+    case.number(&bytes, 9, "-1,000,001 in the mirror, and no schedule");
+}
+
+/// Numbers 1 to 9 as planning gives them, and 10 before them. What is left in output and scratch is looked at with each.
+fn latest_refusals(case: &mut Stored) {
+    let with_rule = |rule: (u8, u8, i32)| writing::ticket(&ticket(5, &[3], &[rule]));
+    let mut longer = writing::ticket(&two_trains());
+    longer.push(0);
+    let refusals = [
+        (Vec::new(), 1),
+        (longer[..longer.len() - 2].to_vec(), 1),
+        (writing::ticket(&ticket(1_000_001, &[3], &[])), 2),
+        (writing::ticket(&ticket(5, &[3; 41], &[])), 3),
+        (writing::ticket(&ticket(5, &[3, 5], &[])), 4),
+        (writing::ticket(&ticket(5, &[3], &[(0, 1, 5); 257])), 5),
+        (with_rule((0, 2, 5)), 6),
+        (with_rule((1, 1, 1_000_001)), 6),
+        (with_rule((0, 1, 1_000_001)), 7),
+        (with_rule((1, 0, -1_000_001)), 7),
+        (longer, 8),
+        (with_rule((0, 1, -1)), 9),
+        (with_rule((1, 0, -6)), 9),
+    ];
+    for (bytes, number) in &refusals {
+        case.number(bytes, *number, "a refusal of the latest plan");
+    }
+    let short = |out: usize, scratch: usize| Lengths { out: calls::RECORD - out, scratch: calls::SCRATCH - scratch };
+    for bytes in [writing::ticket(&two_trains()), Vec::new()] {
+        for lengths in [short(1, 0), short(0, 1), short(1, 1), short(calls::RECORD, calls::SCRATCH)] {
+            let plan = case.trial.plan(Prefer::Latest, &bytes, lengths);
+            case.refused(&plan, "too little memory for the latest plan");
+        }
+    }
 }
 
 /// Says: the matrix of least distances, earliest times 5 and 8, latest 15 and 19.

@@ -3,7 +3,7 @@
 use crate::lent::{Element, Lent};
 use crate::library::Library;
 use crate::model::calls::{self, Answer, Loose, LooseRecord, Outcome};
-use crate::model::{reading, text, writing, Commitment, Record, Rule, Solver};
+use crate::model::{reading, text, writing, Commitment, Prefer, Record, Rule, Solver};
 use crate::random::Random;
 
 /// Calls made, how many of them the model answers with each number, and the differences found.
@@ -114,15 +114,15 @@ impl<'a> Trial<'a> {
     }
 
     /// Planning of these bytes; the record, if accepted.
-    pub fn plan(&mut self, ticket: &[u8], lengths: Lengths) -> Option<Vec<u8>> {
-        let expected = calls::plan(ticket, self.solver);
+    pub fn plan(&mut self, prefer: Prefer, ticket: &[u8], lengths: Lengths) -> Option<Vec<u8>> {
+        let expected = calls::plan(ticket, prefer, self.solver);
         let library = self.library;
         self.planning(
             &expected,
             lengths,
-            &|| format!("plan {} with {lengths:?}", hex(ticket)),
-            &|out, scratch| library.plan(ticket, out, scratch),
-            &|out| library.plan_door(ticket, out),
+            &|| format!("{prefer:?} plan {} with {lengths:?}", hex(ticket)),
+            &|out, scratch| library.plan(prefer, ticket, out, scratch),
+            &|out| library.plan_door(prefer, ticket, out),
         )
     }
 
@@ -182,12 +182,13 @@ impl<'a> Trial<'a> {
     }
 
     /// The whole text that the program prints for these bytes.
-    pub fn printed(&mut self, ticket: &[u8]) {
-        let outcome = calls::plan(ticket, self.solver);
+    pub fn printed(&mut self, prefer: Prefer, ticket: &[u8]) {
+        let outcome = calls::plan(ticket, prefer, self.solver);
         let expected = text::printed(&outcome);
-        let given = self.library.printed(ticket);
+        let given = self.library.printed(prefer, ticket);
         self.count(outcome.err().unwrap_or(0));
-        self.expect(given == expected, "text", || format!("{} printed {given:?}, expected {expected:?}", hex(ticket)));
+        let call = || format!("{prefer:?} plan {} printed {given:?}, expected {expected:?}", hex(ticket));
+        self.expect(given == expected, "text", call);
     }
 
     /// Number, length, bytes and rest of what is written; `what` says it.

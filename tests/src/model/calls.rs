@@ -1,6 +1,6 @@
 //! The calls: what is answered and written, from everything that is lent.
 
-use super::{distances, exhaustive, reading, writing, Commitment, Record, Rule, Solver, Ticket, Window};
+use super::{distances, exhaustive, reading, writing, Commitment, Prefer, Record, Rule, Solver, Ticket, Window};
 
 /// Least sizes: bytes of a ticket's and a record's output, numbers of scratch, numbers of a table.
 pub const TICKET: usize = 1_584;
@@ -33,18 +33,19 @@ fn fit(record: &Record, solver: Solver) -> bool {
     record.ticket.rules.iter().all(|r| close(r.to) - open(r.from) <= r.bound as i64)
 }
 
-/// Planning of a ticket's bytes, once output and scratch are long enough.
-pub fn plan(bytes: &[u8], solver: Solver) -> Outcome {
+/// Planning of a ticket's bytes, once output and scratch are long enough: the plan, or the latest plan.
+pub fn plan(bytes: &[u8], prefer: Prefer, solver: Solver) -> Outcome {
     let ticket = reading::ticket(bytes)?;
     if solver == Solver::Flow && !distances::has_schedule(&ticket) {
         return Err(9);
     }
-    let windows = ticket.best(&ticket.any_windows(), solver).ok_or(9u32)?;
+    let windows = ticket.best(&ticket.any_windows(), prefer, solver).ok_or(9u32)?;
     let total = ticket.total(&windows);
     Ok((Record::new(ticket, windows), total))
 }
 
-/// A commitment on a record's bytes, once output and scratch are long enough.
+/// A commitment on a record's bytes, once output and scratch are long enough. It prefers the earliest, whatever made the
+/// record.
 pub fn commit(bytes: &[u8], commitment: Commitment, solver: Solver) -> Outcome {
     let mut record = reading::record(bytes)?;
     if !fit(&record, solver) {
@@ -62,7 +63,8 @@ pub fn commit(bytes: &[u8], commitment: Commitment, solver: Solver) -> Outcome {
         return Err(13);
     }
     let ranges = record.ranges_after(commitment);
-    record.windows = record.ticket.best(&ranges, solver).expect("the record's own windows are in the ranges");
+    let windows = record.ticket.best(&ranges, Prefer::Earliest, solver);
+    record.windows = windows.expect("the record's own windows are in the ranges");
     record.committed[place] = true;
     record.accepted += 1;
     let total = record.ticket.total(&record.windows);

@@ -1,7 +1,7 @@
 //! The definitions of 01 by enumeration, for tiny tickets: every schedule, every set of windows,
 //! every choice of one tick in each window.
 
-use super::{Range, Ticket, Window};
+use super::{Prefer, Range, Ticket, Window};
 
 /// Which lists of n ticks in 0 to H are schedules; the list (t1, .., tn) is the number with these digits.
 struct Schedules {
@@ -71,34 +71,40 @@ fn windows_within(range: &Range) -> Vec<Window> {
     pairs.filter(|w| w.open <= w.close).collect()
 }
 
-/// Of all fit sets within the ranges the widest ones: their total, and the least open and close of each event.
+/// Of all fit sets within the ranges the widest ones: their total, and the least or the greatest open and close of each
+/// event that any of them has.
 struct Widest {
+    prefer: Prefer,
     total: i64,
-    least: Option<Vec<Window>>,
+    ends: Option<Vec<Window>>,
 }
 
 impl Widest {
     fn add(&mut self, total: i64, windows: &[Window]) {
-        match &mut self.least {
-            Some(least) if total == self.total => {
-                for (kept, window) in least.iter_mut().zip(windows) {
-                    kept.open = kept.open.min(window.open);
-                    kept.close = kept.close.min(window.close);
+        let better = match self.prefer {
+            Prefer::Earliest => u32::min,
+            Prefer::Latest => u32::max,
+        };
+        match &mut self.ends {
+            Some(ends) if total == self.total => {
+                for (kept, window) in ends.iter_mut().zip(windows) {
+                    kept.open = better(kept.open, window.open);
+                    kept.close = better(kept.close, window.close);
                 }
             }
             _ => {
                 self.total = total;
-                self.least = Some(windows.to_vec());
+                self.ends = Some(windows.to_vec());
             }
         }
     }
 }
 
-/// The widest and then earliest fit set within the ranges.
-pub fn best(ticket: &Ticket, ranges: &[Range]) -> Option<Vec<Window>> {
+/// The widest fit set within the ranges, and of these the preferred one.
+pub fn best(ticket: &Ticket, ranges: &[Range], prefer: Prefer) -> Option<Vec<Window>> {
     let schedules = Schedules::of(ticket);
     let choices: Vec<Vec<Window>> = ranges.iter().map(windows_within).collect();
-    let mut widest = Widest { total: -1, least: None };
+    let mut widest = Widest { prefer, total: -1, ends: None };
     let mut place = vec![0; choices.len()];
     if choices.iter().any(|list| list.is_empty()) {
         return None;
@@ -115,7 +121,8 @@ pub fn best(ticket: &Ticket, ranges: &[Range]) -> Option<Vec<Window>> {
         place[step] += 1;
         place[..step].fill(0);
     }
-    let least = widest.least?;
-    assert!(schedules.all_choices(&least, 0) && ticket.total(&least) == widest.total, "no earliest set");
-    Some(least)
+    let ends = widest.ends?;
+    let one_of_them = schedules.all_choices(&ends, 0) && ticket.total(&ends) == widest.total;
+    assert!(one_of_them, "of the widest sets none has every open and close");
+    Some(ends)
 }

@@ -1,10 +1,10 @@
-//! Widest and then earliest windows of any size, by minimum-cost flow.
+//! Widest and then earliest or latest windows of any size, by minimum-cost flow.
 //! Node 0 is session start; event i opens at node i and closes at node n + i. An arc from a to b with cost c
 //! demands: tick of b minus tick of a is at most c. Total width is bounded by the cost of a flow that leaves
 //! each open and arrives at each close; a cheapest flow, found by Bellman and Ford, meets the bound, and the
 //! windows that reach it are those that keep the demands of the residual network.
 
-use super::{distances, Range, Ticket, Window, WORTH};
+use super::{distances, Prefer, Range, Ticket, Window, WORTH};
 use std::collections::VecDeque;
 
 /// Arc k and its reverse are 2k and 2k + 1 in the residual network.
@@ -87,10 +87,10 @@ impl Residual {
         sent
     }
 
-    /// The residual network with every arc turned round.
-    fn reversed(&self) -> Vec<(usize, usize, i64)> {
+    /// The arcs with room, as demands.
+    fn usable(&self) -> Vec<(usize, usize, i64)> {
         let usable = (0..self.tail.len()).filter(|&arc| self.room[arc] > 0);
-        usable.map(|arc| (self.head[arc], self.tail[arc], self.cost[arc])).collect()
+        usable.map(|arc| (self.tail[arc], self.head[arc], self.cost[arc])).collect()
     }
 }
 
@@ -112,8 +112,8 @@ fn demands(ticket: &Ticket, ranges: &[Range]) -> Vec<(usize, usize, i64)> {
     demands
 }
 
-/// The widest and then earliest fit set within the ranges.
-pub fn best(ticket: &Ticket, ranges: &[Range]) -> Option<Vec<Window>> {
+/// A cheapest flow from the opens to the closes; none if the demands contradict each other.
+fn cheapest_flow(ticket: &Ticket, ranges: &[Range]) -> Option<Residual> {
     let n = ticket.events();
     let nodes = 2 * n + 1;
     let demands = demands(ticket, ranges);
@@ -130,8 +130,28 @@ pub fn best(ticket: &Ticket, ranges: &[Range]) -> Option<Vec<Window>> {
             wanted[sink - 1] -= sent;
         }
     }
-    // The least tick of a node is what the demands on the way from it to node 0 leave.
-    let to_start = distances::shortest(nodes, &residual.reversed(), 0)?;
-    let tick = |node: usize| (-to_start[node]) as u32;
-    Some((1..=n).map(|k| Window { open: tick(k), close: tick(n + k) }).collect())
+    Some(residual)
+}
+
+/// The least tick of each node is what the demands on the way from it to node 0 leave.
+fn least_ticks(nodes: usize, demands: &[(usize, usize, i64)]) -> Option<Vec<i64>> {
+    let turned: Vec<(usize, usize, i64)> = demands.iter().map(|&(tail, head, cost)| (head, tail, cost)).collect();
+    let to_start = distances::shortest(nodes, &turned, 0)?;
+    Some(to_start.into_iter().map(|length| -length).collect())
+}
+
+/// The greatest tick of each node is what the demands on the way from node 0 to it leave.
+fn greatest_ticks(nodes: usize, demands: &[(usize, usize, i64)]) -> Option<Vec<i64>> {
+    distances::shortest(nodes, demands, 0)
+}
+
+/// The widest fit set within the ranges, and of these the preferred one.
+pub fn best(ticket: &Ticket, ranges: &[Range], prefer: Prefer) -> Option<Vec<Window>> {
+    let n = ticket.events();
+    let demands = cheapest_flow(ticket, ranges)?.usable();
+    let ticks = match prefer {
+        Prefer::Earliest => least_ticks(2 * n + 1, &demands),
+        Prefer::Latest => greatest_ticks(2 * n + 1, &demands),
+    }?;
+    Some((1..=n).map(|k| Window { open: ticks[k] as u32, close: ticks[n + k] as u32 }).collect())
 }

@@ -1,4 +1,5 @@
-//! Document 01 once more, written from its text alone: what each call answers and writes.
+//! Document 01 and the requests of 02 that are met, once more, written from their text alone: what each call answers
+//! and writes.
 //! It shares nothing with the library; sizes of cases decide between two ways to find windows.
 
 pub mod calls;
@@ -60,6 +61,15 @@ pub enum Solver {
     Flow,
 }
 
+/// Which of the widest windows are taken: those with every open and close the least that any has, or the greatest.
+#[derive(Clone, Copy, Debug, PartialEq, Eq)]
+pub enum Prefer {
+    Earliest,
+    Latest,
+}
+
+pub const BOTH: [Prefer; 2] = [Prefer::Earliest, Prefer::Latest];
+
 /// What a tick of width counts, by owner.
 pub const WORTH: [i64; 5] = [1, 1, 1, 1, 1];
 
@@ -90,11 +100,11 @@ impl Ticket {
         self.owners.iter().zip(widths).map(|(&owner, width)| WORTH[owner as usize] * width).sum()
     }
 
-    /// The fit set of windows within `ranges` that is widest and then earliest; none if none is fit.
-    pub fn best(&self, ranges: &[Range], solver: Solver) -> Option<Vec<Window>> {
+    /// The fit set of windows within `ranges` that is widest and then the preferred one; none if none is fit.
+    pub fn best(&self, ranges: &[Range], prefer: Prefer, solver: Solver) -> Option<Vec<Window>> {
         match solver {
-            Solver::Exhaustive => exhaustive::best(self, ranges),
-            Solver::Flow => flow::best(self, ranges),
+            Solver::Exhaustive => exhaustive::best(self, ranges, prefer),
+            Solver::Flow => flow::best(self, ranges, prefer),
         }
     }
 }
