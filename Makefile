@@ -2,9 +2,12 @@
 # make plan      the plan of $(TICKET), a ticket as text
 # make latest    its latest plan
 # make table     its table of distances, with the names of its events
+# make reason    why no times keep its rules, with the names of its events and of the devices in $(ROSTER)
 # make install   the header, the library and the pkg-config file, under $(PREFIX)
 PREFIX = /usr/local
 TICKET = examples/tickets/p1.txt
+ROSTER = examples/roster.names
+ARCHIVE = target/staticlib/libbeyunlak.a
 
 all: library program
 
@@ -23,14 +26,22 @@ latest: program
 	target/bin/planner latest <target/ticket
 
 table: library
-	$(CC) -std=c99 -O2 -Iinclude examples/table.c target/staticlib/libbeyunlak.a -o target/table
+	$(CC) -std=c99 -O2 -Iinclude examples/table.c $(ARCHIVE) -o target/table
 	tools/ticket encode $(TICKET) target/ticket
 	target/table <target/ticket | tools/ticket table $(TICKET)
+
+# without a TICKET one that has no schedule
+reason: TICKET = examples/tickets/p6-impossible.txt
+reason: library
+	$(CC) -std=c99 -O2 -Iinclude examples/reason.c $(ARCHIVE) -o target/reason
+	tools/ticket encode $(TICKET) target/ticket
+	tools/ticket labels $(TICKET) target/labels
+	target/reason target/labels $(ROSTER) target/ticket | tools/ticket reason $(TICKET)
 
 install: library
 	install -d $(DESTDIR)$(PREFIX)/include $(DESTDIR)$(PREFIX)/lib/pkgconfig
 	install -m 644 include/beyunlak.h $(DESTDIR)$(PREFIX)/include
-	install -m 644 target/staticlib/libbeyunlak.a $(DESTDIR)$(PREFIX)/lib
+	install -m 644 $(ARCHIVE) $(DESTDIR)$(PREFIX)/lib
 	sed 's,@PREFIX@,$(PREFIX),' beyunlak.pc.in >$(DESTDIR)$(PREFIX)/lib/pkgconfig/beyunlak.pc
 
-.PHONY: all library program plan latest table install
+.PHONY: all library program plan latest table reason install

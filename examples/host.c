@@ -95,6 +95,8 @@ static const char *reason(uint32_t answer)
     case BEYUNLAK_WINDOW: return "not inside the event's window";
     case BEYUNLAK_LAYOUT: return "record breaks the layout";
     case BEYUNLAK_UNFIT: return "record's windows are not fit";
+    case BEYUNLAK_NAMES: return "list of names breaks the layout";
+    case BEYUNLAK_POSSIBLE: return "a schedule exists";
     default: return "unknown answer";
     }
 }

@@ -5,7 +5,7 @@
  * points. beyunlak_plan gives every event a window, so that each device may pick any tick of its own window
  * without asking the others and no rule is broken; beyunlak_plan_latest does so as late as can be.
  * beyunlak_commit fixes one event's window and widens the others as far as that allows. beyunlak_table tells
- * how far apart in time any two points can be.
+ * how far apart in time any two points can be. beyunlak_reason tells in words why no times keep all rules.
  *
  * Link with libbeyunlak.a. It needs no other library, keeps nothing between two calls, allocates nothing
  * and makes no system call.
@@ -14,7 +14,7 @@
  *   A tick is a tenth of a second. Point 0 is the start of the session, at tick 0. Points 1 to n are the
  *   events. Every event lies between tick 0 and the horizon, without a rule that says so.
  *
- * A TICKET, the input of both plans. Numbers are unsigned and little-endian unless noted.
+ * A TICKET, the input of both plans and of a reason. Numbers are unsigned and little-endian unless noted.
  *     offset       bytes  field
  *     0            4      horizon, 0 to 1,000,000
  *     4            2      n, the number of events, 0 to 40
@@ -46,18 +46,51 @@
  *   that keep the rules: the latest time of event i is D(0, i), its earliest -D(i, 0). D(i, i) is 0, and every
  *   number lies in -horizon to horizon.
  *
+ * A LIST OF NAMES, an input of beyunlak_reason: the labels, a name for each of the n events in their order, or
+ *   the roster, a name for each of the five devices in the order of enum beyunlak_owner.
+ *     bytes    field
+ *     2        the number of names: n for the labels, 5 for the roster
+ *   then for each name
+ *     1        its length, 1 to 16
+ *     1 to 16  its letters, each a byte from 'a' to 'z'
+ *   Nothing follows the last name. Names may be equal.
+ *
+ * A REASON, the output of beyunlak_reason: a text that names rules which cannot all be kept.
+ *   The rules of a ticket have the numbers 1 to m, in their order. What holds without a rule has numbers too:
+ *   "from event i to point 0, bound 0" (not before the start) has m + 2i - 1, and "from point 0 to event i,
+ *   bound horizon" (not after the horizon) has m + 2i.
+ *   A ring is a list of rules in which each goes from the point that the one before it goes to, and the first
+ *   from the point that the last one goes to. The times between these points sum to 0, and each is at most its
+ *   bound: where the bounds sum below 0, the rules of the ring cannot all be kept. There is such a ring exactly
+ *   where no times keep all rules. The text has one with the fewest rules, at most n + 1; of several the one
+ *   whose numbers, listed from the lowest on and compared one by one, come first. Its lines have these forms:
+ *     at LABEL DEVICE   the event that the next rule goes from: its label, and its owner's name in the roster
+ *     at start          the same for point 0
+ *     by NUMBER BOUND   the rule; both numbers are decimal, and a bound below 0 begins with '-'
+ *   The first line is the point that the rule with the lowest number goes from. A rule line follows each point
+ *   line and a point line each rule line but the last, which ends the text. The parts of a line stand one space
+ *   apart, and each line ends with byte 10; no byte 0 ends the text. The horizon 10, one event of the stage,
+ *   labelled "last", and the rule from 1 to 0 with bound -11 give
+ *     at last stage
+ *     by 1 -11
+ *     at start
+ *     by 3 10
+ *   To read a ring back, pass over the first line and over every second one after it: in the others the number
+ *   stands after "by " and the bound after the next space. So a text tells one list of numbers and bounds only.
+ *
  * WHAT IS LEFT IN THE OUTPUT
- *   Answer 0: the record or the table stands at the start of `out`; what lies after it is as it was.
- *   Any other answer: all of `out` is as it was.
+ *   Answer 0: the record, the table or the text stands at the start of `out`; what lies after it is as it was.
+ *   Any other answer: all of `out` is as it was. beyunlak_reason then writes 0 to *length.
  *
  * WHAT A CALLER OWES
  *   - No pointer is null, not even one whose length is 0, and each length is true.
- *   - `out` does not overlap the other memory lent to the call. To commit again, swap two buffers (see below).
+ *   - `out` does not overlap the other memory lent to the call, nor does `length`. To commit again, swap two
+ *     buffers (see below).
  *   - While a call runs, nobody else writes its input or touches its output.
  *   Calls in several threads need no lock where each has memory of its own. Every function ends after a
- *   bounded number of steps, whatever it is given, and uses less than 40 kilobytes of stack (measured; it
- *   depends on how the library was compiled).
- *   Bytes from a stranger are safe: they are refused or planned, and never read or written past their length.
+ *   bounded number of steps, whatever it is given, and uses less than 40 kilobytes of stack, beyunlak_reason
+ *   less than TODO-STACK (measured; it depends on how the library was compiled).
+ *   Bytes from a stranger are safe: they are refused or accepted, and never read or written past their length.
  *
  * EXAMPLE (examples/host.c is a whole program)
  *
@@ -101,7 +134,16 @@ extern "C" {
  * under that the answer is BEYUNLAK_SHORT. */
 #define BEYUNLAK_TABLE_MAX 1681
 
-/* The devices that own events. */
+/* The least size of a reason's output, in bytes, also for a short text: under that the answer is
+ * BEYUNLAK_SHORT. No text is longer. */
+#define BEYUNLAK_REASON_MAX 2200
+
+/* Lists of names: how many letters a name has at most, and how many bytes a list of so many names. */
+#define BEYUNLAK_NAME_MAX 16
+#define BEYUNLAK_NAMES_MAX(count) (2 + (1 + BEYUNLAK_NAME_MAX) * (size_t)(count))
+
+/* The devices that own events, and how many they are. */
+#define BEYUNLAK_DEVICES 5
 enum beyunlak_owner {
     BEYUNLAK_CAMERA = 0,
     BEYUNLAK_FILTER_WHEEL = 1,
@@ -120,7 +162,8 @@ struct beyunlak_rule {
 
 /* The answers. The output's length is tested first. Then the input is read field by field in the order of its
  * bytes, each field's presence before its value, and the first cause decides. Then come 9 for a ticket, and
- * 15, 11, 12, 13 in this order for a commitment. The table's order stands at beyunlak_table. */
+ * 15, 11, 12, 13 in this order for a commitment. The orders of a table and of a reason stand at beyunlak_table
+ * and beyunlak_reason. */
 enum beyunlak_answer {
     BEYUNLAK_ACCEPTED = 0,
     BEYUNLAK_CUT = 1,        /* the bytes end inside a field */
@@ -132,12 +175,14 @@ enum beyunlak_answer {
     BEYUNLAK_BOUND = 7,      /* a bound is below -1,000,000 or above 1,000,000 */
     BEYUNLAK_TRAILING = 8,   /* bytes follow the end of the ticket or record */
     BEYUNLAK_IMPOSSIBLE = 9, /* no times keep all rules (planning and the table) */
-    BEYUNLAK_SHORT = 10,     /* the output is shorter than BEYUNLAK_RECORD_MAX, or BEYUNLAK_TABLE_MAX */
+    BEYUNLAK_SHORT = 10,     /* the output is shorter than BEYUNLAK_RECORD_MAX, _TABLE_MAX or _REASON_MAX */
     BEYUNLAK_EVENT = 11,     /* a commitment to event 0 or to one above n */
     BEYUNLAK_COMMITTED = 12, /* the event is committed already */
     BEYUNLAK_WINDOW = 13,    /* open is above close, or they are not inside the event's window */
     BEYUNLAK_LAYOUT = 14,    /* the record's second count, a flag, a window or the last number is wrong */
-    BEYUNLAK_UNFIT = 15      /* the record's windows allow a choice that breaks a rule */
+    BEYUNLAK_UNFIT = 15,     /* the record's windows allow a choice that breaks a rule */
+    BEYUNLAK_NAMES = 16,     /* a list of names breaks its layout */
+    BEYUNLAK_POSSIBLE = 17   /* a schedule exists: some times keep all rules, so there is no reason */
 };
 
 /*
@@ -172,6 +217,16 @@ uint32_t beyunlak_commit(const uint8_t *record, size_t record_len, uint32_t even
  */
 uint32_t beyunlak_table(uint32_t horizon, uint32_t events, const struct beyunlak_rule *rules, size_t rules_len,
                         int32_t *out, size_t out_len);
+
+/*
+ * The reason why no times keep all rules of a ticket that beyunlak_plan refuses with 9: a text at the start of
+ * `out`, and its length in bytes in *length. examples/reason.c is a whole program.
+ * Answers 0, or the first of these that applies: 10 (`out` is shorter than BEYUNLAK_REASON_MAX), 1 to 8 (the
+ * ticket, as in beyunlak_plan), 16 (the labels, or the roster), 17. After a refusal *length is 0.
+ */
+uint32_t beyunlak_reason(const uint8_t *ticket, size_t ticket_len, const uint8_t *labels, size_t labels_len,
+                         const uint8_t *roster, size_t roster_len, uint8_t *out, size_t out_len,
+                         uint32_t *length);
 
 #ifdef __cplusplus
 }

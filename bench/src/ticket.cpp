@@ -112,7 +112,7 @@ int usual_rules(const std::string &structure, int events) {
     return 256;
 }
 
-Ticket make_ticket(const std::string &structure, int events, int rules, uint64_t seed) {
+Ticket make_ticket(const std::string &structure, int events, int rules, uint64_t seed, std::vector<int64_t> *times) {
     Random random(seed);
     Drawing d;
     d.most = static_cast<size_t>(rules);
@@ -130,6 +130,7 @@ Ticket make_ticket(const std::string &structure, int events, int rules, uint64_t
     if (structure == "ring") draw_ring(d, events, random);
     if (structure == "precedence") draw_precedence(d, events, random);
     for (Rule &rule : d.ticket.rules) rule.bound = std::clamp<int64_t>(rule.bound, -1000000, 1000000);
+    if (times) *times = d.time;
     return d.ticket;
 }
 

@@ -47,9 +47,9 @@ struct Network {
     Windows windows(const std::vector<int64_t> &tick) const;
 };
 
-// Six structures; every ticket has a schedule.
+// Six structures; every ticket has a schedule: a time for each point, for those who ask for `times`.
 extern const std::vector<std::string> structures;
-Ticket make_ticket(const std::string &structure, int events, int rules, uint64_t seed);
+Ticket make_ticket(const std::string &structure, int events, int rules, uint64_t seed, std::vector<int64_t> *times = nullptr);
 int usual_rules(const std::string &structure, int events);
 
 std::vector<uint8_t> ticket_bytes(const Ticket &ticket);

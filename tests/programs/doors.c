@@ -1,6 +1,7 @@
 /* The header against the library: every answer under its name, the lengths, what is left in the output, the
- * examples of latest plans and commitments, and the table. Prints a line a check, "ok NAME" or "FAILED NAME". */
+ * examples of latest plans and commitments, the table, and reasons. Prints a line a check, "ok NAME" or "FAILED NAME". */
 #include <stdio.h>
+#include <stdlib.h>
 #include <string.h>
 
 #include "beyunlak.h"
@@ -365,6 +366,249 @@ static void tables(void)
     check("largest table", answer == BEYUNLAK_ACCEPTED && holds(largest, BEYUNLAK_TABLE_MAX));
 }
 
+/* ---- reasons */
+
+static uint8_t labels[1024], roster[1024];
+static size_t labels_len, roster_len;
+static uint32_t length;
+
+/* A list of the names, which stand one space apart; its length in bytes. */
+static size_t names(uint8_t *list, const char *words)
+{
+    size_t count = 0, at = 2;
+    while (*words) {
+        size_t letters = strcspn(words, " ");
+        list[at] = (uint8_t)letters;
+        memcpy(list + at + 1, words, letters);
+        at += 1 + letters;
+        words += letters + (words[letters] == ' ');
+        count++;
+    }
+    list[0] = (uint8_t)count;
+    list[1] = (uint8_t)(count >> 8);
+    return at;
+}
+
+static void lists(const char *labels_words, const char *roster_words)
+{
+    labels_len = names(labels, labels_words);
+    roster_len = names(roster, roster_words);
+}
+
+#define DEVICES "camera filterwheel lamps stage database"
+
+/* A ticket of stage moves without rules yet. */
+static void moves(uint32_t horizon, uint32_t n, uint32_t rules)
+{
+    start(horizon, n);
+    owners(n, BEYUNLAK_STAGE);
+    put(rules, 2);
+}
+
+static uint32_t reason(size_t out_len)
+{
+    fill();
+    length = 77777;
+    return beyunlak_reason(in, in_len, labels, labels_len, roster, roster_len, out, out_len, &length);
+}
+
+static void no_reason(const char *name, uint32_t wanted)
+{
+    uint32_t answer = reason(BEYUNLAK_REASON_MAX);
+    check(name, answer == wanted && length == 0 && untouched_from(0));
+}
+
+static void says(const char *name, const char *text)
+{
+    uint32_t answer = reason(BEYUNLAK_REASON_MAX);
+    check(name, answer == BEYUNLAK_ACCEPTED && length == strlen(text) && memcmp(out, text, length) == 0 &&
+                    untouched_from(length));
+}
+
+/* Every ticket but the last is refused for itself, though neither list is one. */
+static void reasons_of_tickets(void)
+{
+    labels_len = roster_len = in_len = 0;
+    check("reason 10 first", reason(BEYUNLAK_REASON_MAX - 1) == BEYUNLAK_SHORT && length == 0 && untouched_from(0));
+    check("reason 10, no output", reason(0) == BEYUNLAK_SHORT && length == 0 && untouched_from(0));
+    no_reason("reason 1 empty", BEYUNLAK_CUT);
+    start(BEYUNLAK_HORIZON_MAX + 1, 0);
+    no_reason("reason 2", BEYUNLAK_HORIZON);
+    start(BEYUNLAK_HORIZON_MAX, BEYUNLAK_EVENTS_MAX + 1);
+    no_reason("reason 3", BEYUNLAK_EVENTS);
+    start(5, 1);
+    put(BEYUNLAK_DATABASE + 1, 1);
+    no_reason("reason 4", BEYUNLAK_OWNER);
+    moves(5, 1, BEYUNLAK_RULES_MAX + 1);
+    no_reason("reason 5", BEYUNLAK_RULES);
+    moves(5, 1, 1);
+    rule(1, 2, 3);
+    no_reason("reason 6", BEYUNLAK_POINTS);
+    moves(5, 1, 1);
+    rule(1, 0, -BEYUNLAK_BOUND_MAX - 1);
+    no_reason("reason 7", BEYUNLAK_BOUND);
+    moves(10, 1, 1);
+    rule(1, 0, -11);
+    in_len--;
+    no_reason("reason 1 cut rule", BEYUNLAK_CUT);
+    in_len++;
+    put(0, 1);
+    no_reason("reason 8", BEYUNLAK_TRAILING);
+    in_len--;
+    no_reason("reason 16 after the ticket", BEYUNLAK_NAMES);
+}
+
+/* The ticket is possible, so a list that is overlooked would give 17. */
+static void reasons_of_lists(void)
+{
+    moves(10, 1, 1);
+    rule(1, 0, -10);
+    for (int second = 0; second < 2; second++) {
+        uint8_t *list = second ? roster : labels;
+        size_t *list_len = second ? &roster_len : &labels_len;
+        const char *good = second ? DEVICES : "last";
+        size_t last = names(list, good) - 1;
+        of = second ? "roster: " : "labels: ";
+        lists("last", DEVICES);
+        no_reason("17", BEYUNLAK_POSSIBLE);
+        *list_len = 0;
+        no_reason("16 empty", BEYUNLAK_NAMES);
+        *list_len = 1;
+        no_reason("16 count cut", BEYUNLAK_NAMES);
+        *list_len = 2;
+        no_reason("16 no name", BEYUNLAK_NAMES);
+        *list_len = last;
+        no_reason("16 last letter missing", BEYUNLAK_NAMES);
+        *list_len = last + 2;
+        list[last + 1] = 'a';
+        no_reason("16 a byte after the end", BEYUNLAK_NAMES);
+        *list_len = names(list, second ? DEVICES " a" : "last a");
+        no_reason("16 a name too many", BEYUNLAK_NAMES);
+        *list_len = names(list, second ? "camera filterwheel lamps stage" : "");
+        no_reason("16 a name too few", BEYUNLAK_NAMES);
+        *list_len = names(list, good);
+        list[1] = 1;
+        no_reason("16 high byte of the count", BEYUNLAK_NAMES);
+        list[1] = 0;
+        list[2]--;
+        no_reason("16 a length too short", BEYUNLAK_NAMES);
+        *list_len = names(list, second ? "camera filterwheel lamps stage seventeenletterss" : "seventeenletterss");
+        no_reason("16 seventeen letters", BEYUNLAK_NAMES);
+        *list_len = names(list, second ? "sixteenlettersss b c d e" : "sixteenlettersss");
+        no_reason("17 sixteen letters", BEYUNLAK_POSSIBLE);
+        *list_len = names(list, second ? "a a a a a" : "a");
+        no_reason("17 one letter", BEYUNLAK_POSSIBLE);
+        list[*list_len - 2] = 0;
+        *list_len -= 1;
+        no_reason("16 no letter", BEYUNLAK_NAMES);
+        *list_len = names(list, good);
+        for (size_t k = 0; k < 4; k++) {
+            list[last] = (uint8_t)"`{Z\x80"[k];
+            no_reason("16 no letter a to z", BEYUNLAK_NAMES);
+        }
+    }
+    of = "";
+    lists("", DEVICES);
+    start(0, 0);
+    put(0, 2);
+    no_reason("reason 17 of no events", BEYUNLAK_POSSIBLE);
+    lists("shutter flash", DEVICES);
+    trains();
+    no_reason("reason 17 of P1", BEYUNLAK_POSSIBLE);
+}
+
+static void reasons(void)
+{
+    lists("later sooner", DEVICES);
+    moves(10, 2, 2);
+    rule(1, 2, -1);
+    rule(2, 1, 0);
+    says("reason of P6", "at later stage\nby 1 -1\nat sooner stage\nby 2 0\n");
+    uint32_t answer = reason(sizeof out);
+    check("reason of P6, longer output", answer == BEYUNLAK_ACCEPTED && length == 46 && untouched_from(46));
+    lists("last", DEVICES);
+    moves(10, 1, 1);
+    rule(1, 0, -11);
+    says("reason of P7", "at last stage\nby 1 -11\nat start\nby 3 10\n");
+    moves(0, 1, 1);
+    rule(0, 1, -1);
+    says("not before the start", "at start\nby 1 -1\nat last stage\nby 2 0\n");
+    lists("a a", "e d c b a");
+    start(20, 2);
+    put(BEYUNLAK_CAMERA, 1);
+    put(BEYUNLAK_DATABASE, 1);
+    put(3, 2);
+    rule(1, 2, 200);
+    rule(2, 1, -5);
+    rule(0, 2, 4);
+    says("started at the lowest", "at a a\nby 2 -5\nat a e\nby 4 0\nat start\nby 3 4\n");
+    lists("one two three", DEVICES);
+    moves(9, 3, 5);
+    rule(1, 2, -3);
+    rule(2, 3, -3);
+    rule(3, 1, -3);
+    rule(3, 2, 2);
+    rule(3, 2, 1);
+    says("two rules before three, and the first of two", "at two stage\nby 2 -3\nat three stage\nby 4 2\n");
+    moves(9, 3, 4);
+    rule(3, 1, 1);
+    rule(2, 3, 2);
+    rule(1, 3, -2);
+    rule(3, 2, -3);
+    says("first in order", "at three stage\nby 1 1\nat one stage\nby 3 -2\n");
+    moves(9, 3, 3);
+    rule(3, 2, 0);
+    rule(2, 1, -9);
+    rule(1, 3, 8);
+    says("a ring of three", "at three stage\nby 1 0\nat two stage\nby 2 -9\nat one stage\nby 3 8\n");
+    moves(BEYUNLAK_HORIZON_MAX, 2, 2);
+    rule(1, 0, -BEYUNLAK_BOUND_MAX);
+    rule(0, 1, BEYUNLAK_BOUND_MAX - 1);
+    lists("one two", DEVICES);
+    says("largest numbers", "at one stage\nby 1 -1000000\nat start\nby 2 999999\n");
+}
+
+/* A ring through all 41 points, of the last 41 of 256 rules, under the longest names; and read back from its text. */
+static void longest_reason(void)
+{
+    static char words[17 * BEYUNLAK_EVENTS_MAX + 1], text[BEYUNLAK_REASON_MAX + 1];
+    const uint32_t first = BEYUNLAK_RULES_MAX - BEYUNLAK_EVENTS_MAX;
+    size_t at = 0;
+    moves(BEYUNLAK_HORIZON_MAX, BEYUNLAK_EVENTS_MAX, BEYUNLAK_RULES_MAX);
+    for (uint32_t k = 1; k < first; k++)
+        rule(0, 40, BEYUNLAK_BOUND_MAX);
+    for (uint32_t i = 0; i < 40; i++) {
+        rule(i, i + 1, 24999);
+        at += (size_t)sprintf(words + at, "%sabcdefghijklmn%c%c", i ? " " : "", 'a' + (int)i % 26, 'a' + (int)i / 26);
+    }
+    rule(40, 0, -999961);
+    check("longest list", names(labels, words) == BEYUNLAK_NAMES_MAX(BEYUNLAK_EVENTS_MAX));
+    lists(words, "camera filterwheel lamps abcdefghijklmnop database");
+    at = (size_t)sprintf(text, "at start\nby %u 24999\n", (unsigned)first);
+    for (uint32_t i = 1; i <= 40; i++)
+        at += (size_t)sprintf(text + at, "at %.16s abcdefghijklmnop\nby %u %d\n", words + 17 * (i - 1), (unsigned)(first + i),
+                              i < 40 ? 24999 : -999961);
+    says("a ring through all points", text);
+
+    /* as the header says: lines by turns, the number after "by ", the bound after the next space */
+    uint32_t number = first;
+    long sum = 0;
+    memcpy(text, out, length);
+    text[length] = 0;
+    for (char *line = text; (line = strstr(line, "\nby ")) != NULL; number++) {
+        char *end;
+        if (strtoul(line + 4, &end, 10) != number)
+            break;
+        sum += strtol(end, &line, 10);
+    }
+    check("read back", number == BEYUNLAK_RULES_MAX + 1 && sum == -1);
+    moves(BEYUNLAK_HORIZON_MAX, BEYUNLAK_EVENTS_MAX, 41);
+    for (uint32_t i = 0; i < 40; i++)
+        rule(i, i + 1, 24999);
+    rule(40, 0, -999960);
+    no_reason("a ring of sum 0", BEYUNLAK_POSSIBLE);
+}
+
 int main(void)
 {
     tickets();
@@ -374,6 +618,10 @@ int main(void)
     layout();
     table_answers();
     tables();
+    reasons_of_tickets();
+    reasons_of_lists();
+    reasons();
+    longest_reason();
     planning = beyunlak_plan_latest;
     of = "latest ";
     tickets();

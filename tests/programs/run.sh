@@ -176,8 +176,163 @@ tells 'a refused table' $p1 'refused 9' 'refused 9: no times keep all rules'
 tells 'a table with a row missing' $p1 '0 15 19/-5 0 4' 'this is no table of 3 points'
 tells 'a table with a word in it' $p1 '0 15 19/-5 x 4/-8 2 0' 'this is no table of 3 points'
 
+# ---- lists of names and reasons in the text tool
+
+printf '%s\n' camera filterwheel lamps stage database >"$work/wanted"
+tools/ticket names examples/roster.names >"$work/got"
+same 'names of the roster' "$work/wanted" "$work/got"
+tools/ticket list examples/roster.txt "$work/made"
+same 'list of the roster' examples/roster.names "$work/made"
+printf 'camera filterwheel # two\n\n lamps\tstage\ndatabase' | tools/ticket list - >"$work/made"
+same 'list of words on few lines' examples/roster.names "$work/made"
+bytes '0000' >"$work/wanted"
+printf '# none\n' | tools/ticket list - >"$work/made"
+same 'list of no names' "$work/wanted" "$work/made"
+
+# no_list WORDS LINE WORD: the words, in which / stands for a line end, are refused at the line, and nothing is written
+no_list() {
+    printf '%s\n' "$1" | tr '/' '\n' >"$work/text"
+    rm -f "$work/made"
+    tools/ticket list "$work/text" "$work/made" >"$work/got" 2>"$work/errors"
+    status=$?
+    printf '%s\n' "$work/text:$2: '$3' is no name of 1 to 16 letters a to z" >"$work/wanted"
+    if [ $status -eq 1 ] && [ ! -e "$work/made" ] && [ ! -s "$work/got" ]; then pass; else fail "list refuses '$1'"; fi
+    same "list refuses '$1', and says why" "$work/wanted" "$work/errors"
+}
+no_list 'camera/filter-wheel' 2 filter-wheel
+no_list 'a b/c/ d Camera' 3 Camera
+no_list 'abcdefghijklmnop/abcdefghijklmnopq' 2 abcdefghijklmnopq
+no_list 'lamp1' 1 lamp1
+
+# no_names HEX BYTE: the bytes are no list of names, which shows at the byte
+no_names() {
+    printf 'refused 16: a list of names breaks its layout (byte %s)\n' "$2" >"$work/wanted"
+    bytes "$1" | tools/ticket names >"$work/got" 2>"$work/errors"
+    good $(($? != 1)) "names refuses $1: exit status"
+    same "names refuses $1" "$work/wanted" "$work/errors"
+    if [ -s "$work/got" ]; then fail "names refuses $1: wrote to standard output"; else pass; fi
+}
+no_names '' 0
+no_names '01' 0
+no_names '0100' 2
+no_names '0100 00' 2
+no_names '0100 11 6161616161616161616161616161616161' 2
+no_names '0100 02 61' 3
+no_names '0100 02 617b' 3
+no_names '0200 01 61 01 41' 5
+no_names '0100 01 61 00' 4
+
+# labelled NAMES LABELS: the labels of events with these names
+labelled() {
+    { echo horizon 9; for name in $1; do echo "event $name stage"; done; } >"$work/text"
+    # shellcheck disable=SC2086
+    printf '%s\n' $2 >"$work/wanted"
+    tools/ticket labels "$work/text" | tools/ticket names >"$work/got"
+    same "labels of '$1'" "$work/wanted" "$work/got"
+}
+labelled 'later sooner' 'later sooner'
+labelled 'a abcdefghijklmnop' 'a abcdefghijklmnop'
+labelled 'a lamps-on lamp_ lamp1 Lamp abcdefghijklmnopq' 'a eventb eventc eventd evente eventf'
+labelled 'x1 x2 eventa eventb eventc' 'eventao eventap eventa eventb eventc'
+labelled 'x1 eventa eventao eventcc' 'eventdq eventa eventao eventcc'
+labelled 'Eventb eventb event-b' 'eventa eventb eventc'
+
+# forty events of which every other one has a label of its own that another would get: all labels are labels and differ
+{
+    echo horizon 9
+    for letters in a b c d e f g h i j k l m n o p q r s t; do
+        printf 'event event%s stage\nevent %s-%s stage\n' $letters $letters $letters
+    done
+} >"$work/text"
+tools/ticket labels "$work/text" | tools/ticket names >"$work/got"
+sort -u "$work/got" | grep -c -x '[a-z]\{1,16\}' >"$work/count"
+echo 40 >"$work/wanted"
+same 'forty labels' "$work/wanted" "$work/count"
+tools/ticket labels examples/tickets/p8.txt >"$work/got"
+bytes '0000' >"$work/wanted"
+same 'labels of no events' "$work/wanted" "$work/got"
+printf 'horizon 9\nevent 1a stage\n' >"$work/text"
+rm -f "$work/made"
+tools/ticket labels "$work/text" "$work/made" 2>"$work/errors"
+if [ $? -eq 1 ] && [ ! -e "$work/made" ] && grep -q "^$work/text:2: " "$work/errors"; then pass; else fail 'labels refuses'; fi
+
+# gives NAME TEXT RING WANTED STATUS: the ring with names, or why it is refused; / stands for a line end
+gives() {
+    printf '%s\n' "$3" | tr '/' '\n' | tools/ticket reason "$2" >"$work/got" 2>&1
+    good $(($? != $5)) "$1: exit status"
+    printf '%s\n' "$4" | tr '/' '\n' >"$work/wanted"
+    same "$1" "$work/wanted" "$work/got"
+}
+# no_ring NAME TEXT RING: the lines are no ring of the text's rules
+no_ring() {
+    printf '%s\n' "$3" | tr '/' '\n' | tools/ticket reason "$2" >"$work/got" 2>"$work/errors"
+    good $(($? != 1)) "no ring, $1: exit status"
+    echo "this is no ring of the rules of $2" >"$work/wanted"
+    same "no ring, $1" "$work/wanted" "$work/errors"
+    if [ -s "$work/got" ]; then fail "no ring, $1: wrote to standard output"; else pass; fi
+}
+p6=examples/tickets/p6-impossible.txt
+p7=examples/tickets/p7-impossible.txt
+p6_ring='at later stage/by 1 -1/at sooner stage/by 2 0'
+p6_told='at later stage/by 1 -1  # line 6: rule later to sooner: -1/at sooner stage/by 2 0   # line 7: rule sooner to later: 0/# the bounds sum to -1: these rules cannot all be kept'
+p7_told='at last stage/by 1 -11  # line 5: rule last to start: -11/at start/by 3 10   # every event lies at or before the horizon/# the bounds sum to -1: these rules cannot all be kept'
+gives 'reason of P6' $p6 "$p6_ring" "$p6_told" 0
+gives 'reason of P7' $p7 'at last stage/by 1 -11/at start/by 3 10' "$p7_told" 0
+gives 'reason under another roster' $p7 'at last table/by 1 -11/at start/by 3 10' "$(echo "$p7_told" | sed 's/stage/table/')" 0
+gives 'reason 17' $p6 'refused 17' 'refused 17: there are times that keep all rules, so the ticket can be planned' 1
+gives 'reason 16' $p6 'refused 16' 'refused 16: a list of names breaks its layout' 1
+no_ring 'nothing' $p6 ''
+no_ring 'a line missing' $p6 'at later stage/by 1 -1/at sooner stage'
+no_ring 'a line too many' $p6 'at later stage/by 1 -1/at sooner stage/by 2 0/at later stage'
+no_ring 'not closed' $p6 'at later stage/by 1 -1'
+no_ring 'other points' $p6 'at later stage/by 1 -1/at later stage/by 2 0'
+no_ring 'another bound' $p6 'at later stage/by 1 -2/at sooner stage/by 2 0'
+no_ring 'a number too high' $p6 'at later stage/by 1 -1/at sooner stage/by 7 0'
+no_ring 'number 0' $p6 'at later stage/by 1 -1/at sooner stage/by 0 0'
+no_ring 'unknown event' $p6 'at last stage/by 1 -1/at sooner stage/by 2 0'
+no_ring 'no device' $p6 'at later/by 1 -1/at sooner stage/by 2 0'
+no_ring 'no name of a device' $p6 'at later stage1/by 1 -1/at sooner stage/by 2 0'
+no_ring 'a sum above 0' $p6 'at later stage/by 3 0/at start/by 4 10'
+no_ring 'a plan' $p6 'plan 2 0/1 3 1 1/2 3 0 0'
+
+# the ticket of README.md: one name is no label
+printf '%s\n' 'horizon 60s' 'event lamps-on lamps' 'event exposure camera' 'between lamps-on and exposure: 5s..20s' \
+    'between start and exposure: ..4s' >"$work/my.txt"
+my_told='at exposure camera/by 2 -50  # line 4: rule exposure to lamps-on: -50/at lamps-on lamps/by 4 0    # every event lies at or after start/at start/by 3 40   # line 5: rule start to exposure: 40/# the bounds sum to -10: these rules cannot all be kept'
+gives 'reason with a made label' "$work/my.txt" 'at exposure camera/by 2 -50/at eventa lamps/by 4 0/at start/by 3 40' "$my_told" 0
+no_ring 'a name that is no label' "$work/my.txt" 'at exposure camera/by 2 -50/at lamps-on lamps/by 4 0/at start/by 3 40'
+
+for number in 16 17; do
+    echo "refused $number" | tools/ticket explain >"$work/got" 2>"$work/errors"
+    if [ $? -eq 1 ] && grep -q "^refused $number: ...*" "$work/errors" && [ ! -s "$work/got" ]; then pass; else fail "explain $number"; fi
+done
+for command in 'labels' 'list' 'reason' 'names a b' 'labels a b c' 'list a b c' 'reason a b c'; do
+    # shellcheck disable=SC2086
+    tools/ticket $command >"$work/got" 2>"$work/errors"
+    if [ $? -eq 2 ] && [ ! -s "$work/got" ]; then pass; else fail "the wrong call '$command'"; fi
+done
+
 # ---- the header, the library and the example programs
 
+# the tickets and lists of reasons.txt become files, and their names and answers a list
+python3 - "$here/reasons.txt" "$work" <<'CASES' >"$work/reasons"
+import sys
+def listed(names):
+    if names.startswith(":"):
+        return bytes.fromhex(names[1:])
+    words = names.split()
+    return len(words).to_bytes(2, "little") + b"".join(bytes([len(word)]) + word.encode("ascii") for word in words)
+rows = [line.rstrip("\n").split("|") for line in open(sys.argv[1], encoding="ascii") if not line.startswith("#")]
+for number, row in enumerate(rows):
+    name, ticket, labels, roster, answer = (part.strip() for part in row)
+    content = {"ticket": bytes.fromhex(ticket), "labels": listed(labels),
+               "roster": listed(roster) if roster else open("examples/roster.names", "rb").read()}
+    for kind, data in content.items():
+        with open(f"{sys.argv[2]}/{number}.{kind}", "wb") as file:
+            file.write(data)
+    print(number, name, answer, sep="|")
+CASES
+good $(($(wc -l <"$work/reasons") != $(grep -c -v '^#' "$here/reasons.txt"))) 'every line of reasons.txt'
 for compiler in gcc clang; do
     command -v $compiler >/dev/null || continue
     $compiler -std=c99 -Wall -Wextra -Werror -pedantic -Iinclude examples/host.c "$library" -o "$work/host" && "$work/host" >"$work/got"
@@ -197,10 +352,100 @@ p7-impossible | refused 9
 p8 | 0
 p9 | refused 1
 TABLES
+    $compiler -std=c99 -Wall -Wextra -Werror -pedantic -Iinclude examples/reason.c "$library" -o "$work/reason"
+    good $? "examples/reason.c with $compiler"
+    while IFS='|' read -r number name wanted; do
+        printf '%s\n' "$wanted" | tr '/' '\n' >"$work/wanted"
+        "$work/reason" "$work/$number.labels" "$work/$number.roster" <"$work/$number.ticket" >"$work/got"
+        status=$?
+        case $wanted in refused*) status=$((status != 1)) ;; esac
+        good $status "reason of $name, with $compiler: exit status"
+        same "reason of $name, with $compiler" "$work/wanted" "$work/got"
+    done <"$work/reasons"
 done
 printf '#include "beyunlak.h"\nint main() { return BEYUNLAK_RECORD_MAX == 1948 ? 0 : 1; }\n' >"$work/host.cpp"
 g++ -Wall -Wextra -Werror -pedantic -Iinclude "$work/host.cpp" -o "$work/cpp" && "$work/cpp"
 good $? 'beyunlak.h in C++'
+cat >"$work/host.cpp" <<'HOST'
+#include <cstring>
+#include "beyunlak.h"
+int main() {
+    const uint8_t ticket[] = {10, 0, 0, 0, 1, 0, BEYUNLAK_STAGE, 1, 0, 1, 0, 0xf5, 0xff, 0xff, 0xff}, labels[] = {1, 0, 1, 'x'};
+    const uint8_t roster[] = {BEYUNLAK_DEVICES, 0, 1, 'a', 1, 'b', 1, 'c', 1, 'd', 1, 'e'};
+    const char *wanted = "at x d\nby 1 -11\nat start\nby 3 10\n";
+    uint8_t text[BEYUNLAK_REASON_MAX];
+    uint32_t length;
+    const uint32_t answer = beyunlak_reason(ticket, sizeof ticket, labels, sizeof labels, roster, sizeof roster, text, sizeof text, &length);
+    return answer == BEYUNLAK_ACCEPTED && length == std::strlen(wanted) && !std::memcmp(text, wanted, length) ? 0 : 1;
+}
+HOST
+g++ -Wall -Wextra -Werror -pedantic -Iinclude "$work/host.cpp" "$library" -o "$work/cpp" && "$work/cpp"
+good $? 'beyunlak_reason in C++'
+
+# a ticket is refused with 9 exactly where it has a ring, and has a plan where the reason is 17
+while IFS='|' read -r number name wanted; do
+    plan=$("$planner" <"$work/$number.ticket" | head -n 1)
+    case $wanted in
+    at*) wanted='refused 9' ;;
+    'refused 17') wanted=plan plan=${plan%% *} ;;
+    'refused 16') continue ;;
+    esac
+    if [ "$plan" = "$wanted" ]; then pass; else fail "plan and reason of $name"; fi
+done <"$work/reasons"
+
+# files: the ticket named, files that are too long, files that are not there
+cp examples/tickets/p7-impossible.ticket "$work/ticket"
+tools/ticket labels $p7 >"$work/labels"
+printf 'at last stage\nby 1 -11\nat start\nby 3 10\n' >"$work/wanted"
+"$work/reason" "$work/labels" examples/roster.names "$work/ticket" <&- >"$work/got"
+same 'reason of a ticket that is named' "$work/wanted" "$work/got"
+head -c 1048576 /dev/zero >"$work/zeros"
+printf 'refused 8\n' >"$work/wanted"
+"$work/reason" "$work/labels" examples/roster.names "$work/zeros" >"$work/got"
+same 'reason of a megabyte of zeros' "$work/wanted" "$work/got"
+{ bytes 0100; bytes 0161 340; } >"$work/long"
+printf 'refused 16\n' >"$work/wanted"
+"$work/reason" "$work/long" examples/roster.names "$work/ticket" >"$work/got"
+same 'reason with labels that are too long' "$work/wanted" "$work/got"
+{ cat examples/roster.names; bytes 61 1000; } >"$work/long"
+"$work/reason" "$work/labels" "$work/long" "$work/ticket" >"$work/got"
+same 'reason with a roster that is too long' "$work/wanted" "$work/got"
+for words in '' "$work/labels" "$work/none examples/roster.names" "$work/labels $work/none" "$work/labels examples/roster.names $work" \
+    "$work/labels examples/roster.names $work/ticket $work/ticket"; do
+    # shellcheck disable=SC2086
+    "$work/reason" $words <"$work/ticket" >"$work/got" 2>"$work/errors"
+    if [ $? -eq 2 ] && [ ! -s "$work/got" ] && [ -s "$work/errors" ]; then pass; else fail "reason called with '$words'"; fi
+done
+
+# makes NAME WANTED STATUS WORD..: what `make reason` prints with these words, the library as it is; / stands for a line end
+mkdir -p target
+makes() {
+    name=$1 wanted=$2 status=$3
+    shift 3
+    printf '%s\n' "$wanted" | tr '/' '\n' >"$work/wanted"
+    make -s -o library reason ARCHIVE="$library" "$@" >"$work/got" 2>"$work/errors"
+    good $(($? != status)) "make reason, $name: exit status"
+    if [ "$status" -ne 0 ]; then grep -v '^make' "$work/errors" >"$work/got"; fi
+    same "make reason, $name" "$work/wanted" "$work/got"
+}
+makes 'no ticket named' "$p6_told" 0
+makes 'P6' "$p6_told" 0 TICKET=$p6
+makes 'P7' "$p7_told" 0 TICKET=$p7
+makes 'README' "$my_told" 0 TICKET="$work/my.txt"
+echo a b c d e | tools/ticket list - "$work/roster"
+makes 'another roster' "$(echo "$p7_told" | sed 's/stage/d/')" 0 TICKET=$p7 ROSTER="$work/roster"
+makes 'P1' 'refused 17: there are times that keep all rules, so the ticket can be planned' 2 TICKET=$p1
+makes 'a wrong roster' 'refused 16: a list of names breaks its layout' 2 TICKET=$p7 ROSTER="$work/labels"
+
+# stands FILE TOLD: what `make reason` prints stands in the document, four spaces in
+stands() {
+    printf '%s\n' "$2" | tr '/' '\n' | sed 's/^/    /' >"$work/wanted"
+    python3 -c 'import sys; sys.exit(open(sys.argv[2]).read() not in open(sys.argv[1]).read())' "$1" "$work/wanted"
+    good $? "$1 has another reason"
+}
+stands README.md "$my_told"
+stands docs/TEXT-FORM.md "$p6_told"
+stands docs/TEXT-FORM.md "$p7_told"
 
 gcc -std=c99 -Wall -Wextra -Werror -pedantic -Iinclude "$here/doors.c" "$library" -o "$work/doors" && "$work/doors" >"$work/got"
 good $? 'tests/programs/doors.c'
@@ -213,6 +458,9 @@ for program in host doors table; do
     good $? "$program under valgrind"
     if [ -s "$work/errors" ]; then fail "$program under valgrind: errors"; head -n 20 "$work/errors"; else pass; fi
 done
+valgrind -q --error-exitcode=9 --leak-check=full "$work/reason" "$work/labels" examples/roster.names "$work/ticket" >/dev/null 2>"$work/errors"
+good $? 'reason under valgrind'
+if [ -s "$work/errors" ]; then fail 'reason under valgrind: errors'; head -n 20 "$work/errors"; else pass; fi
 
 printf '%d passed, %d failed\n' "$passed" "$failed"
 [ "$failed" -eq 0 ]

@@ -1,9 +1,10 @@
 //! Kinds of cases. One seed gives one case: some tickets or records and the calls on them.
 
 use crate::generate::{self, Structure, STRUCTURES};
+use crate::impossible::{self, SHAPES};
 use crate::library::Library;
-use crate::model::calls::{self, Loose, LooseRecord};
-use crate::model::{reading, writing, Commitment, Prefer, Record, Rule, Solver, Ticket, BOTH};
+use crate::model::calls::{self, Asked, Loose, LooseRecord};
+use crate::model::{reading, rings, writing, Commitment, Prefer, Record, Rule, Solver, Ticket, BOTH};
 use crate::random::Random;
 use crate::trial::{Lengths, Report, Trial, ENOUGH};
 
@@ -33,9 +34,15 @@ pub enum Kind {
     Latest,
     /// Latest plans of tiny tickets, expected answers by exhaustive search, which the model's flow has to give, too.
     LatestTiny,
+    /// Reasons in words for tickets of all sizes, most of them impossible.
+    Reason,
+    /// Reasons for tiny tickets, expected rings out of all walks, which least sums of walks have to give, too.
+    ReasonTiny,
+    /// Reasons with damaged lists of names, and damaged tickets.
+    ReasonLists,
 }
 
-pub const KINDS: [Kind; 12] = [
+pub const KINDS: [Kind; 15] = [
     Kind::Tiny,
     Kind::Structures,
     Kind::Runs,
@@ -48,6 +55,9 @@ pub const KINDS: [Kind; 12] = [
     Kind::Text,
     Kind::Latest,
     Kind::LatestTiny,
+    Kind::Reason,
+    Kind::ReasonTiny,
+    Kind::ReasonLists,
 ];
 
 impl Kind {
@@ -65,6 +75,9 @@ impl Kind {
             Kind::Text => "text",
             Kind::Latest => "latest",
             Kind::LatestTiny => "latest-tiny",
+            Kind::Reason => "reason",
+            Kind::ReasonTiny => "reason-tiny",
+            Kind::ReasonLists => "reason-lists",
         }
     }
 
@@ -75,19 +88,27 @@ impl Kind {
     /// The kind that a long run tries at this seed.
     pub fn at(seed: u64) -> Kind {
         match Random::new(seed ^ 0x6b69_6e64).below(1_000) {
-            0..=159 => Kind::Tiny,
-            160..=379 => Kind::Structures,
-            380..=449 => Kind::Runs,
-            450..=679 => Kind::Foreign,
-            680..=769 => Kind::Damaged,
-            770..=773 => Kind::Prefixes,
-            774..=776 => Kind::Lengths,
-            777..=799 => Kind::Values,
-            800..=826 => Kind::Records,
-            827..=829 => Kind::Text,
-            830..=949 => Kind::Latest,
-            _ => Kind::LatestTiny,
+            0..=119 => Kind::Tiny,
+            120..=299 => Kind::Structures,
+            300..=359 => Kind::Runs,
+            360..=529 => Kind::Foreign,
+            530..=609 => Kind::Damaged,
+            610..=613 => Kind::Prefixes,
+            614..=616 => Kind::Lengths,
+            617..=639 => Kind::Values,
+            640..=666 => Kind::Records,
+            667..=669 => Kind::Text,
+            670..=779 => Kind::Latest,
+            780..=829 => Kind::LatestTiny,
+            830..=909 => Kind::Reason,
+            910..=949 => Kind::ReasonTiny,
+            _ => Kind::ReasonLists,
         }
+    }
+
+    /// Whether its calls are those for reasons in words.
+    pub fn of_reasons(self) -> bool {
+        matches!(self, Kind::Reason | Kind::ReasonTiny | Kind::ReasonLists)
     }
 
     /// The numbers that the quick part has to reach in calls of this kind, beside those of all kinds together.
@@ -97,6 +118,8 @@ impl Kind {
             Kind::Records => &[0, 2, 3, 4, 5, 6, 7, 10, 14],
             Kind::Text => &[0, 1, 2, 3, 4, 5, 6, 7, 8, 9],
             Kind::Latest => &[0, 1, 2, 3, 4, 5, 6, 7, 8, 9, 10, 11, 12, 13],
+            Kind::Reason | Kind::ReasonLists => &[0, 1, 2, 3, 4, 5, 6, 7, 8, 10, 16, 17],
+            Kind::ReasonTiny => &[0, 17],
             _ => &[],
         }
     }
@@ -118,6 +141,9 @@ pub fn run(kind: Kind, seed: u64, library: &dyn Library) -> Report {
         Kind::Text => text(&mut trial, seed),
         Kind::Latest => latest(&mut trial, seed),
         Kind::LatestTiny => latest_tiny(&mut trial),
+        Kind::Reason => reason(&mut trial, seed),
+        Kind::ReasonTiny => reason_tiny(&mut trial),
+        Kind::ReasonLists => reason_lists(&mut trial, seed),
     }
     trial.report
 }
@@ -368,6 +394,60 @@ fn latest_tiny(trial: &mut Trial) {
     if let Some(record) = trial.plan(Prefer::Latest, &ticket, ENOUGH) {
         commit_on(trial, record, 4, 20);
     }
+}
+
+/// The reason of a ticket, again with another length, with the ticket damaged, and with one of the lists damaged.
+fn reason(trial: &mut Trial, seed: u64) {
+    let random = &mut trial.random;
+    let shape = SHAPES[seed as usize % SHAPES.len()];
+    let asked = impossible::asked(&impossible::ticket(shape, random), random);
+    let damaged = Asked { ticket: generate::damaged(&asked.ticket, random), ..asked.clone() };
+    let mut unnamed = asked.clone();
+    let list = if random.chance(50) { &mut unnamed.labels } else { &mut unnamed.roster };
+    *list = impossible::damaged_list(list, random);
+    let length = some_length(calls::REASON, random);
+    trial.reason(&asked, calls::REASON);
+    trial.reason(&asked, length);
+    trial.reason(&damaged, calls::REASON);
+    trial.reason(&unnamed, calls::REASON);
+}
+
+fn reason_tiny(trial: &mut Trial) {
+    trial.solver = Solver::Exhaustive;
+    for _ in 0..4 {
+        let ticket = impossible::tiny(&mut trial.random);
+        let asked = impossible::asked(&ticket, &mut trial.random);
+        let searched = rings::first(&ticket, Solver::Exhaustive);
+        let summed = rings::first(&ticket, Solver::Flow);
+        let ways = || format!("{ticket:?}: searched {searched:?}, by sums {summed:?}");
+        trial.expect(searched == summed, "the model's two ways", ways);
+        trial.reason(&asked, calls::REASON);
+    }
+}
+
+/// Either list or both of them damaged, sometimes the ticket too, or the output too short.
+fn reason_lists(trial: &mut Trial, seed: u64) {
+    let shape = SHAPES[seed as usize % SHAPES.len()];
+    let asked = impossible::asked(&impossible::small(shape, &mut trial.random), &mut trial.random);
+    for _ in 0..8 {
+        let random = &mut trial.random;
+        let mut damaged = asked.clone();
+        let which = random.pick(&["labels", "labels", "roster", "roster", "both", "neither"]);
+        if which == "labels" || which == "both" {
+            damaged.labels = impossible::damaged_list(&asked.labels, random);
+        }
+        if which == "roster" || which == "both" {
+            damaged.roster = impossible::damaged_list(&asked.roster, random);
+        }
+        if random.chance(15) {
+            damaged.ticket = generate::damaged(&asked.ticket, random);
+        }
+        let length = if random.chance(20) { some_length(calls::REASON, random) } else { calls::REASON };
+        trial.reason(&damaged, length);
+    }
+    // Each list in the other's place.
+    let Asked { ticket, labels, roster } = asked;
+    trial.reason(&Asked { ticket, labels: roster, roster: labels }, calls::REASON);
 }
 
 /// What a ticket is made of, not all of it in range.

@@ -2,10 +2,11 @@
 
 use crate::library::{self, Library, Model};
 use crate::mirror;
-use crate::model::calls::{self, Answer, Loose, LooseRecord, Outcome};
+use crate::model::calls::{self, Answer, Asked, Loose, LooseRecord, Outcome};
 use crate::model::{
     distances, reading, text, writing, Commitment, Prefer, Range, Record, Rule, Solver, Ticket, Window,
 };
+use crate::reason_faults::{self, ReasonFault};
 
 #[derive(Clone, Copy, Debug, PartialEq, Eq)]
 pub enum Fault {
@@ -77,8 +78,11 @@ pub enum Fault {
     CommitsLatest,
     /// The program overlooks the word `latest`.
     PrintsEarliest,
+    /// A fault of the call for reasons in words.
+    Reason(ReasonFault),
 }
 
+/// All faults but those of reasons.
 pub const FAULTS: [Fault; 34] = [
     Fault::RefusesAll,
     Fault::OnePlan,
@@ -450,6 +454,13 @@ impl Library for Faulty {
         match self.fault {
             Fault::WritesLateWindow => Model.write_record(&cut_at_horizon(loose), out),
             _ => Model.write_record(loose, out),
+        }
+    }
+
+    fn reason(&self, asked: &Asked, out: &mut [u8]) -> (u32, u32) {
+        match self.fault {
+            Fault::Reason(fault) => reason_faults::reason(fault, asked, out),
+            _ => Model.reason(asked, out),
         }
     }
 

@@ -40,16 +40,16 @@ pub const STRUCTURES: [Structure; 10] = [
     Structure::Squeezed,
 ];
 
-const MOST_RULES: usize = 256;
+pub const MOST_RULES: usize = 256;
 const FARTHEST: i64 = 1_000_000;
 
 /// Rules as they are drawn: bounds are cut to the range, rules past the most are left out.
-struct Rules {
-    list: Vec<Rule>,
+pub struct Rules {
+    pub list: Vec<Rule>,
 }
 
 impl Rules {
-    fn at_most(&mut self, from: usize, to: usize, bound: i64) {
+    pub fn at_most(&mut self, from: usize, to: usize, bound: i64) {
         if from != to && self.list.len() < MOST_RULES {
             let bound = bound.clamp(-FARTHEST, FARTHEST) as i32;
             self.list.push(Rule { from: from as u8, to: to as u8, bound });

@@ -1,6 +1,6 @@
 //! The functions under test, behind one trait: the linked library, or the model standing in for it.
 
-use crate::model::calls::{self, Answer, Loose, LooseRecord, Outcome};
+use crate::model::calls::{self, Answer, Asked, Loose, LooseRecord, Outcome};
 use crate::model::{text, Commitment, Prefer, Rule, Solver};
 
 pub trait Library: Sync {
@@ -22,6 +22,9 @@ pub trait Library: Sync {
     /// Writing a ticket or a record of any values: number and length.
     fn write_ticket(&self, loose: &Loose, out: &mut [u8]) -> (u32, u32);
     fn write_record(&self, loose: &LooseRecord, out: &mut [u8]) -> (u32, u32);
+
+    /// The C door of the reason in words: number and length.
+    fn reason(&self, asked: &Asked, out: &mut [u8]) -> (u32, u32);
 
     /// What the program prints for these bytes, with the word `latest` where that is preferred.
     fn printed(&self, prefer: Prefer, ticket: &[u8]) -> String;
@@ -73,6 +76,10 @@ impl Library for Model {
 
     fn write_record(&self, loose: &LooseRecord, out: &mut [u8]) -> (u32, u32) {
         calls::write_record(loose, out)
+    }
+
+    fn reason(&self, asked: &Asked, out: &mut [u8]) -> (u32, u32) {
+        calls::reason(asked, out, Solver::Flow)
     }
 
     fn printed(&self, prefer: Prefer, ticket: &[u8]) -> String {

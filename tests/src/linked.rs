@@ -1,7 +1,7 @@
 //! The static libraries libbeyunlak.a and libharness.a, and the program. A slice passes as its pointer and its length.
 
 use crate::library::Library;
-use crate::model::calls::{Answer, Loose, LooseRecord};
+use crate::model::calls::{Answer, Asked, Loose, LooseRecord};
 use crate::model::{Commitment, Prefer, Rule};
 use std::io::Write;
 use std::process::{Command, Stdio};
@@ -33,6 +33,17 @@ extern "C" {
         rules_len: usize,
         out: *mut i32,
         out_len: usize,
+    ) -> u32;
+    fn beyunlak_reason(
+        ticket: *const u8,
+        ticket_len: usize,
+        labels: *const u8,
+        labels_len: usize,
+        roster: *const u8,
+        roster_len: usize,
+        out: *mut u8,
+        out_len: usize,
+        length: *mut u32,
     ) -> u32;
     fn harness_plan(
         ticket: *const u8,
@@ -269,6 +280,25 @@ impl Library for Linked {
                 closes.as_ptr(),
                 closes.len(),
                 *number,
+                out.as_mut_ptr(),
+                out.len(),
+                &mut length,
+            )
+        };
+        (number, length)
+    }
+
+    fn reason(&self, asked: &Asked, out: &mut [u8]) -> (u32, u32) {
+        let mut length = UNWRITTEN;
+        let Asked { ticket, labels, roster } = asked;
+        let number = unsafe {
+            beyunlak_reason(
+                ticket.as_ptr(),
+                ticket.len(),
+                labels.as_ptr(),
+                labels.len(),
+                roster.as_ptr(),
+                roster.len(),
                 out.as_mut_ptr(),
                 out.len(),
                 &mut length,

@@ -3,6 +3,7 @@
 mod cases;
 mod faults;
 mod generate;
+mod impossible;
 mod lent;
 mod library;
 #[cfg(linked)]
@@ -10,20 +11,22 @@ mod linked;
 mod mirror;
 mod model;
 mod random;
+mod reason_faults;
 mod solvers;
 mod stored;
 mod trial;
 
 use cases::{Kind, KINDS};
-use faults::{Faulty, FAULTS};
+use faults::{Fault, Faulty, FAULTS};
 use library::Library;
+use reason_faults::REASON_FAULTS;
 use std::sync::atomic::{AtomicU64, Ordering};
 use std::sync::Mutex;
 use std::time::Instant;
-use trial::Report;
+use trial::{Report, NUMBERS};
 
 /// How many seeds of each kind the quick part tries.
-const QUICK: [(Kind, u64); 12] = [
+const QUICK: [(Kind, u64); 15] = [
     (Kind::Tiny, 4_000),
     (Kind::Structures, 3_600),
     (Kind::Runs, 150),
@@ -36,13 +39,16 @@ const QUICK: [(Kind, u64); 12] = [
     (Kind::Text, 150),
     (Kind::Latest, 1_800),
     (Kind::LatestTiny, 3_000),
+    (Kind::Reason, 9_000),
+    (Kind::ReasonTiny, 4_000),
+    (Kind::ReasonLists, 6_000),
 ];
 
 const USAGE: &str = "\
 tests/run quick                      stored cases and some thousand seeds: the gate's part
 tests/run long SEED COUNT [THREADS]  seeds from SEED on until COUNT calls are made
 tests/run one KIND SEED              one case: tiny structures runs foreign damaged prefixes lengths values records text
-                                     latest latest-tiny
+                                     latest latest-tiny reason reason-tiny reason-lists
 tests/run solvers SEED COUNT         the solvers of the model against each other
 tests/run self-check                 libraries with a planted fault: each has to be caught";
 
@@ -63,7 +69,7 @@ struct Tally {
     passed: u64,
     failed: u64,
     calls: u64,
-    numbers: [u64; 16],
+    numbers: [u64; NUMBERS],
     kinds: [u64; KINDS.len()],
 }
 
@@ -97,7 +103,7 @@ impl Tally {
         }
     }
 
-    /// How many calls were answered with 0, 1, .., 15.
+    /// How many calls were answered with 0, 1, .., 17.
     fn numbers_line(&self) -> String {
         let counts = self.numbers.iter().enumerate().map(|(number, count)| format!("{number}: {count}"));
         format!("calls by number: {}", counts.collect::<Vec<_>>().join(", "))
@@ -175,7 +181,7 @@ fn quick(library: &dyn Library) -> i32 {
         all.join(tally);
     }
     println!("{}", all.numbers_line());
-    all.reached("all kinds", &std::array::from_fn::<usize, 16, _>(|number| number));
+    all.reached("all kinds", &std::array::from_fn::<usize, NUMBERS, _>(|number| number));
     println!("{} calls in {:.1} s", all.calls, start.elapsed().as_secs_f64());
     all.last_line()
 }
@@ -205,7 +211,7 @@ fn long(library: &dyn Library, seed: u64, count: u64, threads: usize) -> i32 {
 /// How the quick part finds each planted fault: the kinds of cases that show it.
 fn self_check() -> i32 {
     let mut all = Tally::default();
-    for fault in FAULTS {
+    for fault in FAULTS.into_iter().chain(REASON_FAULTS.map(Fault::Reason)) {
         let library = Faulty { fault };
         let mut caught: Vec<String> = Vec::new();
         for case in &stored::CASES {
@@ -214,7 +220,9 @@ fn self_check() -> i32 {
                 break;
             }
         }
-        for kind in KINDS {
+        // The call for reasons is made by kinds of its own.
+        let of_reasons = matches!(fault, Fault::Reason(_));
+        for kind in KINDS.into_iter().filter(|kind| kind.of_reasons() == of_reasons) {
             let seeds = QUICK.iter().find(|(k, _)| *k == kind).map_or(0, |(_, count)| *count).min(300);
             let first = (1..=seeds).find(|&seed| !cases::run(kind, seed, &library).differences.is_empty());
             if let Some(seed) = first {

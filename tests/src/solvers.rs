@@ -1,11 +1,12 @@
 //! The model against itself: exhaustive search and flow on tiny tickets and records, tables by enumeration
-//! and by shortest paths, the latest plan against the mirror of 02 on tickets of all sizes, and bytes that come back
-//! from reading and writing.
+//! and by shortest paths, the latest plan against the mirror of 02 on tickets of all sizes, rings out of all walks and by
+//! least sums of walks, and bytes that come back from reading and writing.
 
 use crate::generate::{self, STRUCTURES};
+use crate::impossible::{self, SHAPES};
 use crate::mirror;
 use crate::model::calls::{self, Outcome};
-use crate::model::{distances, exhaustive, reading, writing, Prefer, Solver, Ticket, BOTH};
+use crate::model::{distances, exhaustive, reading, reason, rings, writing, Prefer, Solver, Ticket, BOTH};
 use crate::random::Random;
 
 fn same(seed: u64, what: &str, by: impl Fn(Solver) -> Outcome, differences: &mut Vec<String>) {
@@ -25,6 +26,37 @@ fn mirrored(seed: u64, ticket: &Ticket, differences: &mut Vec<String>) {
     }
     if mirror::ticket(&mirror::ticket(ticket)) != *ticket {
         differences.push(format!("mirrored twice at seed {seed}"));
+    }
+}
+
+/// The first ring by least sums of walks against that out of all walks, if these are few; and whether there is one at all.
+fn ringed(seed: u64, ticket: &Ticket, tiny: bool, differences: &mut Vec<String>) {
+    let summed = rings::first(ticket, Solver::Flow);
+    let possible = if tiny { exhaustive::has_schedule(ticket) } else { distances::has_schedule(ticket) };
+    if summed.is_none() != possible {
+        differences.push(format!("ring at seed {seed}: {summed:?}, schedule: {possible}"));
+    }
+    if tiny || summed.as_ref().is_some_and(|ring| ring.len() <= 3) {
+        let searched = rings::first(ticket, Solver::Exhaustive);
+        if searched != summed {
+            differences.push(format!("ring at seed {seed}: searched {searched:?}, by sums {summed:?}"));
+        }
+    }
+}
+
+/// The names that are written are read again, and the ring's numbers and bounds from its text.
+fn reworded(seed: u64, ticket: &Ticket, random: &mut Random, differences: &mut Vec<String>) {
+    let asked = impossible::asked(ticket, random);
+    let steps = rings::numbered(ticket);
+    let ring = rings::first(ticket, Solver::Flow).unwrap_or_default();
+    let lists = [(&asked.labels, ticket.events()), (&asked.roster, reason::DEVICES)];
+    let [Ok(labels), Ok(roster)] = lists.map(|(list, count)| reason::names(list, count)) else {
+        return differences.push(format!("names read again at seed {seed}"));
+    };
+    let said: Vec<(usize, i64)> = ring.iter().map(|&number| (number, steps[number - 1].bound)).collect();
+    let text = reason::text(ticket, &steps, &ring, &labels, &roster);
+    if !ring.is_empty() && reason::read(&text) != Some(said) {
+        differences.push(format!("text read again at seed {seed}"));
     }
 }
 
@@ -62,7 +94,11 @@ pub fn compare(first: u64, count: u64) -> (u64, Vec<String>) {
         let (n, horizon) = generate::size(random);
         let structure = STRUCTURES[seed as usize % STRUCTURES.len()];
         mirrored(seed, &generate::ticket(structure, n, horizon, random), &mut differences);
-        tried += 2;
+        ringed(seed, &impossible::tiny(random), true, &mut differences);
+        let larger = impossible::ticket(SHAPES[seed as usize % SHAPES.len()], random);
+        ringed(seed, &larger, false, &mut differences);
+        reworded(seed, &larger, random, &mut differences);
+        tried += 4;
     }
     (tried, differences)
 }

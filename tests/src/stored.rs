@@ -1,6 +1,8 @@
 //! Cases with known answers: the examples of 01, what 02 makes of them, and instances from the five source documents.
 //! Each is also compared with the model. "Says" lines are the source's statement, in our words.
 
+mod reasons;
+
 use crate::library::Library;
 use crate::model::calls;
 use crate::model::{reading, writing, Commitment, Prefer, Record, Rule, Solver, Ticket, Window, BOTH};
@@ -9,7 +11,7 @@ use crate::trial::{Lengths, Report, Trial, ENOUGH};
 /// A name and what it tries.
 type Case = (&'static str, fn(&mut Stored));
 
-pub const CASES: [Case; 27] = [
+pub const CASES: [Case; 35] = [
     ("01, P1 and P2", example_1_2),
     ("01, P3", example_3),
     ("01, P4 and P5", example_4_5),
@@ -25,6 +27,14 @@ pub const CASES: [Case; 27] = [
     ("02, change 1: latest plan of a session", latest_session),
     ("02, change 1: mirrors past a ticket's range", latest_past_the_range),
     ("02, change 1: refusals of the latest plan", latest_refusals),
+    ("02, change 2: P6 and P7 that are impossible", reasons::examples),
+    ("02, change 2: unwritten rules", reasons::unwritten),
+    ("02, change 2: ties", reasons::ties),
+    ("02, change 2: a ring through all points", reasons::all_points),
+    ("02, change 2: the longest text", reasons::longest),
+    ("02, change 2: names", reasons::names),
+    ("02, change 2: refusals in their order", reasons::refusals),
+    ("02, change 2: lists that break their layout", reasons::lists),
     ("000, examples 1 and 2: trains", trains),
     ("000, example 3: earliest to latest", trains_earliest_to_latest),
     ("000, examples 4 to 6: a train commits", trains_commitment),
@@ -273,12 +283,16 @@ fn latest_past_the_range(case: &mut Stored) {
     case.number(&bytes, 9, "-1,000,001 in the mirror, and no schedule");
 }
 
-/// Numbers 1 to 9 as planning gives them, and 10 before them. What is left in output and scratch is looked at with each.
-fn latest_refusals(case: &mut Stored) {
-    let with_rule = |rule: (u8, u8, i32)| writing::ticket(&ticket(5, &[3], &[rule]));
+/// The ticket of a rule.
+fn with_rule(rule: (u8, u8, i32)) -> Vec<u8> {
+    writing::ticket(&ticket(5, &[3], &[rule]))
+}
+
+/// Bytes that are no ticket, with their numbers 1 to 8.
+fn unread() -> Vec<(Vec<u8>, u32)> {
     let mut longer = writing::ticket(&two_trains());
     longer.push(0);
-    let refusals = [
+    vec![
         (Vec::new(), 1),
         (longer[..longer.len() - 2].to_vec(), 1),
         (writing::ticket(&ticket(1_000_001, &[3], &[])), 2),
@@ -290,11 +304,14 @@ fn latest_refusals(case: &mut Stored) {
         (with_rule((0, 1, 1_000_001)), 7),
         (with_rule((1, 0, -1_000_001)), 7),
         (longer, 8),
-        (with_rule((0, 1, -1)), 9),
-        (with_rule((1, 0, -6)), 9),
-    ];
-    for (bytes, number) in &refusals {
-        case.number(bytes, *number, "a refusal of the latest plan");
+    ]
+}
+
+/// Numbers 1 to 9 as planning gives them, and 10 before them. What is left in output and scratch is looked at with each.
+fn latest_refusals(case: &mut Stored) {
+    let impossible = [(with_rule((0, 1, -1)), 9), (with_rule((1, 0, -6)), 9)];
+    for (bytes, number) in unread().into_iter().chain(impossible) {
+        case.number(&bytes, number, "a refusal of the latest plan");
     }
     let short = |out: usize, scratch: usize| Lengths { out: calls::RECORD - out, scratch: calls::SCRATCH - scratch };
     for bytes in [writing::ticket(&two_trains()), Vec::new()] {

@@ -2,15 +2,19 @@
 
 use crate::lent::{Element, Lent};
 use crate::library::Library;
-use crate::model::calls::{self, Answer, Loose, LooseRecord, Outcome};
-use crate::model::{reading, text, writing, Commitment, Prefer, Record, Rule, Solver};
+use crate::model::calls::{self, Answer, Asked, Loose, LooseRecord, Outcome};
+use crate::model::rings::{self, Step};
+use crate::model::{reading, reason, text, writing, Commitment, Prefer, Record, Rule, Solver, Ticket};
 use crate::random::Random;
+
+/// Numbers answered: 0 to 17.
+pub const NUMBERS: usize = 18;
 
 /// Calls made, how many of them the model answers with each number, and the differences found.
 #[derive(Default)]
 pub struct Report {
     pub calls: u64,
-    pub numbers: [u64; 16],
+    pub numbers: [u64; NUMBERS],
     pub differences: Vec<String>,
 }
 
@@ -191,14 +195,27 @@ impl<'a> Trial<'a> {
         self.expect(given == expected, "text", call);
     }
 
-    /// Number, length, bytes and rest of what is written; `what` says it.
+    /// Why a ticket is impossible, in words; the text, if the library gives one.
+    pub fn reason(&mut self, asked: &Asked, length: usize) -> Option<Vec<u8>> {
+        let (library, solver) = (self.library, self.solver);
+        let Asked { ticket, labels, roster } = asked;
+        let what = || format!("reason of {}, labels {}, roster {}", hex(ticket), hex(labels), hex(roster));
+        let expected = |out: &mut [u8]| calls::reason(asked, out, solver);
+        let call = |out: &mut [u8]| library.reason(asked, out);
+        let text = self.rewriting(&what, length, &expected, &call)?;
+        let given = || format!("{} gave {:?}", what(), String::from_utf8_lossy(&text));
+        self.expect(explains(asked, &text) == Some(true), "a reason's claim", given);
+        Some(text)
+    }
+
+    /// Number, length, bytes and rest of what is written; `what` says it. What the library wrote, if it accepts.
     fn rewriting(
         &mut self,
         what: &dyn Fn() -> String,
         length: usize,
         expected: &dyn Fn(&mut [u8]) -> (u32, u32),
         rewrite: &dyn Fn(&mut [u8]) -> (u32, u32),
-    ) {
+    ) -> Option<Vec<u8>> {
         let mut out: Lent<u8> = self.lend(length);
         let mut wanted = out.slice().to_vec();
         let answer = expected(&mut wanted);
@@ -206,8 +223,12 @@ impl<'a> Trial<'a> {
         self.count(answer.0);
         let call = || format!("{} with {length} bytes answered {given:?}, expected {answer:?}", what());
         self.expect(given == answer, "writing", call);
-        self.expect(out.slice() == wanted, "written", call);
+        let written = out.first(given.1 as usize).to_vec();
+        self.expect(out.slice() == wanted, "written", || {
+            format!("{}, wrote {}, expected {}", call(), hex(&written), hex(&wanted[..answer.1 as usize]))
+        });
         self.expect(out.untouched_after(answer.1 as usize), "rest of what is written", call);
+        (given.0 == 0).then_some(written)
     }
 
     /// A record's claims that need no model: what a run says of flags, counts and kept windows.
@@ -231,4 +252,37 @@ impl<'a> Trial<'a> {
         self.expect(holds, "a run's claim", || format!("{commitment:?} made {} of {before:?}", hex(after)));
         Some(record)
     }
+}
+
+/// The rule of this number, counted from the number; none if there is none.
+fn rule_of_number(ticket: &Ticket, number: usize) -> Option<Step> {
+    let m = ticket.rules.len();
+    if (1..=m).contains(&number) {
+        let Rule { from, to, bound } = ticket.rules[number - 1];
+        return Some(Step { from: from as usize, to: to as usize, bound: bound as i64 });
+    }
+    (1..=ticket.events()).find_map(|event| match number {
+        _ if number == m + 2 * event - 1 => Some(Step { from: event, to: 0, bound: 0 }),
+        _ if number == m + 2 * event => Some(Step { from: 0, to: event, bound: ticket.horizon as i64 }),
+        _ => None,
+    })
+}
+
+/// A reason's claims that need no model's ring: what is read back from the text are at most n + 1 rules, the lowest first,
+/// each with its bound and from where the one before it goes to, which sum below zero; and the text is theirs. None if it
+/// cannot be read.
+fn explains(asked: &Asked, text: &[u8]) -> Option<bool> {
+    let ticket = reading::ticket(&asked.ticket).ok()?;
+    let labels = reason::names(&asked.labels, ticket.events()).ok()?;
+    let roster = reason::names(&asked.roster, reason::DEVICES).ok()?;
+    let read = reason::read(text)?;
+    let ring: Vec<usize> = read.iter().map(|&(number, _)| number).collect();
+    let walk: Vec<Step> = ring.iter().map(|&number| rule_of_number(&ticket, number)).collect::<Option<_>>()?;
+    let onward = walk.iter().cycle().skip(1);
+    let is_ring = walk.len() <= ticket.events() + 1
+        && ring.iter().min() == ring.first()
+        && walk.iter().zip(&read).all(|(rule, &(_, bound))| rule.bound == bound)
+        && walk.iter().zip(onward).all(|(rule, next)| rule.to == next.from)
+        && walk.iter().map(|rule| rule.bound).sum::<i64>() < 0;
+    Some(is_ring && reason::text(&ticket, &rings::numbered(&ticket), &ring, &labels, &roster) == text)
 }

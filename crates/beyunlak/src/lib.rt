@@ -1,4 +1,5 @@
-// The four functions that a host program in C calls: planning, the latest plan and commitment on numbers and byte slices, and the table of distances.
+// The five functions that a host program in C calls: planning, the latest plan and commitment on numbers and byte slices, the table of distances, and the
+// reason why a ticket is impossible.
 // The first three hold the scratch that crate `plan` works in, so that number 10 says that the output is too short. Nobody sees it, so it is not cleared.
 ghost use mathlib.Core.Path.{_≡_};
 ghost use mathlib.Core.List.{map};
@@ -6,6 +7,7 @@ ghost use lib.ListN.{length, replicate};
 ghost use Rattle.runs.specs.Calls.{planning, planningLatest, committing};
 ghost use Rattle.temporal.specs.Table.{tableOf};
 ghost use Rattle.table.specs.Lent.{ruleOf};
+ghost use Rattle.reasons.specs.Reasoning.{reasoning};
 use ticket::RECORD_BYTES;
 
 // The scratch of a call; as a call's result it is no list of 1,824 literals in the proofs.
@@ -74,4 +76,23 @@ pub extern "C" fn beyunlak_table(
     ensures { λ r. ⌜ (r, now (out .exit)) ≡ tableOf horizon events (map ruleOf (now (rules .entry))) (now (out .entry)) ⌝ }
 {
     table::table(horizon, events, rules, out)
+}
+
+// Why a ticket has no schedule: the text of a ring of rules, at the start of `out`, with the names of the two lists. The answer is 0, or the number of the
+// first cause to refuse; `length` is the length of the text.
+#[no_mangle]
+pub extern "C" fn beyunlak_reason<'a>(
+    ticket: &'a [u8],
+    labels: &'a [u8],
+    roster: &'a [u8],
+    out: &mut [u8],
+    length: &mut u32,
+) -> u32
+    ensures { λ r. ⌜ r ≡ reasoning (now (ticket .entry)) (now (labels .entry)) (now (roster .entry)) (now (out .entry)) .number ⌝ }
+    ensures { λ _. ⌜ now (length .exit) ≡ reasoning (now (ticket .entry)) (now (labels .entry)) (now (roster .entry)) (now (out .entry)) .length ⌝ }
+    ensures { λ _. ⌜ now (out .exit) ≡ reasoning (now (ticket .entry)) (now (labels .entry)) (now (roster .entry)) (now (out .entry)) .out ⌝ }
+{
+    let explained = reason::reason(ticket, labels, roster, out);
+    *length = explained.length;
+    explained.number
 }

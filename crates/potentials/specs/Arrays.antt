@@ -9,7 +9,7 @@ use lib.Dec.{eqb, leb→le}
 use lib.IntN.{ℤ, pos, negsuc}
 use lib.Signed.{_≤ℤ_}
 use lib.ListN.{length, getD, set}
-use Rattle.temporal.specs.Lists.{All, All-below, tab, getD-tab, tab-set}
+use Rattle.temporal.specs.Lists.{All, All-below, tab-set}
 use Rattle.temporal.specs.Bound.{above, below}
 use Rattle.temporal.specs.Ticket as temporal
 use Rattle.temporal.specs.Ticket.{Rule, events, Window, origin}
@@ -17,7 +17,7 @@ use Rattle.temporal.specs.Ends.{Lies}
 use Rattle.temporal.specs.Run.{Valid, ValidRule}
 use Rattle.network.specs.Stored.{at}
 use Rattle.ticket.specs.Writing.{firsts, ownerIn, ruleIn, content}
-use Rattle.ticket.specs.WritingLaws.{length-firsts}
+use Rattle.ticket.specs.WritingLaws.{length-firsts, firsts-tab, getD-firsts}
 use Rattle.ticket.specs.declared.Ticket.{Ticket}
 
 -- ---- what stands in the arrays
@@ -30,19 +30,6 @@ unfoldable pub flagList : ℕ → List ℕ → List Bool
 flagList n flags = firsts n (λ i. eqb (at flags i) 1)
 
 -- ---- laws
-
-tab-snoc : {A : Type 0} (n : ℕ) (f : ℕ → A) → tab (suc n) f ≡ tab n f ++ f n ∷ []
-unfolding tab
-tab-snoc zero f = refl
-tab-snoc (suc n) f = ap (λ xs. f 0 ∷ xs) (tab-snoc n (λ i. f (suc i)))
-
-pub firsts-tab : {A : Type 0} (n : ℕ) (f : ℕ → A) → firsts n f ≡ tab n f
-unfolding firsts tab
-firsts-tab zero f = refl
-firsts-tab (suc n) f = ap (λ xs. xs ++ f n ∷ []) (firsts-tab n f) ∙ sym (tab-snoc n f)
-
-getD-firsts : {A : Type 0} (n : ℕ) (f : ℕ → A) (d : A) (i : ℕ) → i < n → getD (firsts n f) i d ≡ f i
-getD-firsts n f d i l = ap (λ xs. getD xs i d) (firsts-tab n f) ∙ getD-tab n f d i l
 
 pub firsts-set : {A : Type 0} (n : ℕ) (f g : ℕ → A) (i : ℕ) (x : A) → i < n → g i ≡ x → ((j : ℕ) → (j ≡ i → ⊥) → g j ≡ f j) → firsts n g ≡ set (firsts n f) i x
 firsts-set n f g i x l e h = firsts-tab n g ∙ tab-set n f g i x l e h ∙ ap (λ xs. set xs i x) (sym (firsts-tab n f))

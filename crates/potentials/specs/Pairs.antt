@@ -12,7 +12,8 @@ use Rattle.temporal.specs.Lists.{tab-cong}
 use Rattle.temporal.specs.Ticket.{Window}
 use Rattle.network.specs.Lists.{set-more}
 use Rattle.network.specs.Stored.{at}
-use Rattle.potentials.specs.Arrays.{windowList, firsts-tab, window-at, Within, within-same}
+use Rattle.ticket.specs.WritingLaws.{firsts-tab}
+use Rattle.potentials.specs.Arrays.{windowList, window-at, Within, within-same}
 use Rattle.potentials.specs.Nodes.{by-nodes, windowsOf, potentialOf, potential-open, potential-close}
 
 -- ---- two numbers an event

@@ -18,7 +18,8 @@ fn digit(d: u32) -> u8
     48 + d as u8
 }
 
-fn put_byte(out: &mut [u8], at: usize, b: u8) -> usize
+// One byte.
+pub fn put_byte(out: &mut [u8], at: usize, b: u8) -> usize
     requires { ⌜ at < length (now out) ⌝ }
     ensures { λ r. ⌜ Puts (b ∷ []) (now (out .entry)) (now (out .exit)) at r ⌝ }
 {
@@ -39,7 +40,7 @@ fn put_number(out: &mut [u8], at: usize, x: u32) -> usize
 }
 
 // x and the byte that ends it.
-fn put_part(out: &mut [u8], at: usize, x: u32, end: u8) -> usize
+pub fn put_part(out: &mut [u8], at: usize, x: u32, end: u8) -> usize
     requires { ⌜ at + 11 ≤ length (now out) ⌝ }
     ensures { λ r. ⌜ Puts (decimal x ++ end ∷ []) (now (out .entry)) (now (out .exit)) at r ⌝ }
     ensures { λ r. ⌜ r ≤ at + 11 ⌝ }
@@ -48,7 +49,8 @@ fn put_part(out: &mut [u8], at: usize, x: u32, end: u8) -> usize
     put_byte(out, next, end)
 }
 
-fn put_word(out: &mut [u8], at: usize, word: &[u8]) -> usize
+// The bytes of a word.
+pub fn put_word(out: &mut [u8], at: usize, word: &[u8]) -> usize
     requires { ⌜ at + length (now word) ≤ length (now out) ⌝ }
     ensures { λ r. ⌜ Puts (now (word .entry)) (now (out .entry)) (now (out .exit)) at r ⌝ }
 {

@@ -1,12 +1,14 @@
 //! The calls: what is answered and written, from everything that is lent.
 
-use super::{distances, exhaustive, reading, writing, Commitment, Prefer, Record, Rule, Solver, Ticket, Window};
+use super::{distances, exhaustive, reading, reason, rings, writing};
+use super::{Commitment, Prefer, Record, Rule, Solver, Ticket, Window};
 
-/// Least sizes: bytes of a ticket's and a record's output, numbers of scratch, numbers of a table.
+/// Least sizes: bytes of a ticket's and a record's output, numbers of scratch, numbers of a table, bytes of a reason's output.
 pub const TICKET: usize = 1_584;
 pub const RECORD: usize = 1_948;
 pub const SCRATCH: usize = 8_192;
 pub const TABLE: usize = 1_681;
+pub const REASON: usize = 2_200;
 
 /// Number, length and total; the last two are 0 on a refusal.
 #[derive(Clone, Copy, Debug, PartialEq, Eq)]
@@ -193,5 +195,31 @@ pub fn write_record(loose: &LooseRecord, out: &mut [u8]) -> (u32, u32) {
         reading::accepted_in_range(loose.number, &committed)?;
         let windows = places.map(window).collect();
         Ok(writing::record(&Record { ticket, committed, windows, accepted: loose.number as u16 }))
+    })
+}
+
+/// What a reason is asked for with: a ticket, the collection's label list and the roster.
+#[derive(Clone, Debug)]
+pub struct Asked {
+    pub ticket: Vec<u8>,
+    pub labels: Vec<u8>,
+    pub roster: Vec<u8>,
+}
+
+/// The reason of an impossible ticket in words: 10, then 1 to 8, 16 for either list, 17 if there is a schedule.
+pub fn reason(asked: &Asked, out: &mut [u8], solver: Solver) -> (u32, u32) {
+    rewrite(out, REASON, || {
+        let ticket = reading::ticket(&asked.ticket)?;
+        let labels = reason::names(&asked.labels, ticket.events())?;
+        let roster = reason::names(&asked.roster, reason::DEVICES)?;
+        let possible = match solver {
+            Solver::Exhaustive => exhaustive::has_schedule(&ticket),
+            Solver::Flow => distances::has_schedule(&ticket),
+        };
+        if possible {
+            return Err(17);
+        }
+        let ring = rings::first(&ticket, solver).expect("without a schedule there is a ring");
+        Ok(reason::text(&ticket, &rings::numbered(&ticket), &ring, &labels, &roster))
     })
 }

@@ -42,6 +42,11 @@ fn keeps_rules(ticket: &Ticket, times: &[i64]) -> bool {
     ticket.rules.iter().all(|r| times[r.to as usize] - times[r.from as usize] <= r.bound as i64)
 }
 
+/// Whether any list of ticks is a schedule.
+pub fn has_schedule(ticket: &Ticket) -> bool {
+    Schedules::of(ticket).is_schedule.contains(&true)
+}
+
 /// Whether the windows are fit, by trying every choice.
 pub fn fit(ticket: &Ticket, windows: &[Window]) -> bool {
     Schedules::of(ticket).all_choices(windows, 0)

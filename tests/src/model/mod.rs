@@ -7,6 +7,8 @@ pub mod distances;
 pub mod exhaustive;
 pub mod flow;
 pub mod reading;
+pub mod reason;
+pub mod rings;
 pub mod text;
 pub mod writing;
 
@@ -54,7 +56,7 @@ pub struct Range {
     pub close: (u32, u32),
 }
 
-/// How the windows are found.
+/// How the windows are found; a ring is found by trying every walk, or by least sums of walks.
 #[derive(Clone, Copy, Debug, PartialEq, Eq)]
 pub enum Solver {
     Exhaustive,

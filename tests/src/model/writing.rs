@@ -26,3 +26,13 @@ pub fn record(record: &Record) -> Vec<u8> {
     bytes.extend(record.accepted.to_le_bytes());
     bytes
 }
+
+/// A list of names: their count, then each after its length.
+pub fn names(names: &[String]) -> Vec<u8> {
+    let mut bytes = (names.len() as u16).to_le_bytes().to_vec();
+    for name in names {
+        bytes.push(name.len() as u8);
+        bytes.extend(name.as_bytes());
+    }
+    bytes
+}
