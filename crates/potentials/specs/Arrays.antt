@@ -2,8 +2,8 @@
 -- What they hold is said by `ticket`'s `content` and `stateOf`: places past the counts mean nothing. Rests on these and on temporal's definitions.
 use mathlib.Core.Path.{_≡_, refl, sym, ap, _∙_}
 use mathlib.Core.Bool.{Bool, false}
-use mathlib.Core.List.{List, [], _∷_, _++_}
-use Prim.Native.Nat.{ℕ, zero, suc, _≤_, _<_}
+use mathlib.Core.List.{List}
+use Prim.Native.Nat.{ℕ, _≤_, _<_}
 use native.Mathlib.Omega.{arith}
 use lib.Dec.{eqb, leb→le}
 use lib.IntN.{ℤ, pos, negsuc}

@@ -2,8 +2,8 @@
 -- what reading answers.
 use Prim.Native.Nat.{ℕ, _-_, _≤_}
 use mathlib.Core.Path.{_≡_, refl, sym, ap, subst, _∙_}
-use mathlib.Core.Bool.{Bool, true, false}
-use mathlib.Core.List.{List, []}
+use mathlib.Core.Bool.{true}
+use mathlib.Core.List.{List}
 use mathlib.Core.Logic.{_≢_}
 use native.Mathlib.Omega.{arith}
 use lib.Dec.{T, not-T}
@@ -13,10 +13,10 @@ use Rattle.temporal.specs.Ticket as temporal
 use Rattle.temporal.specs.Ticket.{events}
 use Rattle.temporal.specs.Distance.{consistent}
 use Rattle.temporal.specs.Run.{Valid}
-use Rattle.ticket.specs.Parser.{Out, got, refused, number, wholly}
+use Rattle.ticket.specs.Parser.{got, number, wholly}
 use Rattle.ticket.specs.Laws.{was-refused, was-got}
 use Rattle.ticket.specs.Format.{readTicket}
-use Rattle.ticket.specs.Writing.{content, over}
+use Rattle.ticket.specs.Writing.{content}
 use Rattle.ticket.specs.Stored.{pad, stored, answer, wholeTicket}
 use Rattle.ticket.specs.RoundTrip.{Bytes, written-read}
 use Rattle.ticket.specs.Agree.{content-stored}
@@ -32,7 +32,7 @@ use Rattle.ring.specs.declared.Found.{Found}
 use Rattle.reasons.specs.Text.{ringText}
 use Rattle.reasons.specs.Size.{text-size}
 use Rattle.reasons.specs.Reasoning.{Outcome, refusing, printing, explaining, afterReading, reasoning}
-use Rattle.reasons.specs.Reasoning.{reasoning-short, reasoning-read, unlisted-labels, unlisted-roster, explaining-possible, explaining-ring}
+use Rattle.reasons.specs.Reasoning.{reasoning-read, explaining-possible, explaining-ring}
 use Rattle.reason.specs.Returned.{returned}
 use Rattle.reason.specs.declared.Answer.{Answer}
 
@@ -82,8 +82,7 @@ module _ (k : temporal.Ticket) (v : Valid k) (labels roster : List ℕ) (l : wel
         let text = ringText k labels roster (take (f .count) (f .rules)) in
         let n-is : n ≡ length text = omega (arith, p .end) in
         let same : explaining k labels roster out ≡ printing text out =
-        explaining-ring k labels roster out l r (T-false (consistent k) (not-T (consistent k) no-schedule)) ∙ ap (λ es. printing (ringText k labels roster es) out) (sym found-rules) in
-        (
+        explaining-ring k labels roster out l r (T-false (consistent k) (not-T (consistent k) no-schedule)) ∙ ap (λ es. printing (ringText k labels roster es) out) (sym found-rules) in (
           ap (λ (x : ℕ). record { number = 0; length = x }) n-is ∙ ap returned (sym same),
           p .stored ∙ sets-over text out (omega (arith, found-fits)) ∙ ap (λ (x : Outcome). x .out) (sym same),
         )

@@ -15,3 +15,4 @@ pub mod Reading
 pub mod Size
 pub mod Reasoning
 pub mod Reasoned
+pub mod Examples

@@ -57,19 +57,22 @@ pub record Explained (ticket labels roster out : List ℕ) (o : Outcome) (k : Ti
   pub fits : o .length ≤ 2200
   pub out-is : o .out ≡ over (ringText k labels roster rules) out
 
--- ---- a ticket that was read
+-- ---- the lists
 
-lists-test : (k : Ticket) (labels roster : List ℕ) → Listed k labels roster ⊎ ((wellFormed labels (events k) ≡ false) ⊎ ((wellFormed labels (events k) ≡ true) × (wellFormed roster 5 ≡ false)))
-lists-test k labels roster = go (wellFormed labels (events k)) (wellFormed roster 5) refl refl
+-- the labels break the layout, or else the roster does
+abbrev Broken : Ticket → (labels roster : List ℕ) → Type 0
+Broken k labels roster = (wellFormed labels (events k) ≡ false) ⊎ ((wellFormed labels (events k) ≡ true) × (wellFormed roster 5 ≡ false))
+
+test-lists : (k : Ticket) (labels roster : List ℕ) → Listed k labels roster ⊎ Broken k labels roster
+test-lists k labels roster = go (wellFormed labels (events k)) (wellFormed roster 5) refl refl
   where
-    go : (a b : Bool) → wellFormed labels (events k) ≡ a → wellFormed roster 5 ≡ b
-        → Listed k labels roster ⊎ ((wellFormed labels (events k) ≡ false) ⊎ ((wellFormed labels (events k) ≡ true) × (wellFormed roster 5 ≡ false)))
+    go : (a b : Bool) → wellFormed labels (events k) ≡ a → wellFormed roster 5 ≡ b → Listed k labels roster ⊎ Broken k labels roster
     go true true e f = inl (record { labelled = e; known = f })
     go false b e f = inr (inl e)
     go true false e f = inr (inr (e, f))
 
-true-or-false : (b : Bool) → b ≡ true → b ≡ false → ⊥
-true-or-false b e f = subst T f (rw e tt)
+not-both : (b : Bool) → b ≡ true → ¬ (b ≡ false)
+not-both b e f = subst T f (rw e tt)
 
 -- ---- what is answered
 
@@ -82,9 +85,9 @@ module _ (ticket labels roster out : List ℕ) where
     explains = reasoning-read ticket labels roster out room ∙ ap (afterReading labels roster out) h
 
     answer-unlisted : ¬ Listed k labels roster → answer ≡ refusing 16 out
-    answer-unlisted n = by (lists-test k labels roster)
+    answer-unlisted n = by (test-lists k labels roster)
       where
-        by : Listed k labels roster ⊎ ((wellFormed labels (events k) ≡ false) ⊎ ((wellFormed labels (events k) ≡ true) × (wellFormed roster 5 ≡ false))) → answer ≡ refusing 16 out
+        by : Listed k labels roster ⊎ Broken k labels roster → answer ≡ refusing 16 out
         by (inl l) = absurd (n l)
         by (inr (inl e)) = explains ∙ unlisted-labels k labels roster out e
         by (inr (inr e)) = explains ∙ unlisted-roster k labels roster out (e .0) (e .1)
@@ -105,33 +108,32 @@ module _ (ticket labels roster out : List ℕ) where
   refused-is x (unlisted k e l q n) = (answer-unlisted l k q n ∙ ap (λ r. refusing r out) (sym e), λ z. omega (arith, z))
   refused-is x (possible k e l q f ts s) = (answer-possible l k q f ts s ∙ ap (λ r. refusing r out) (sym e), λ z. omega (arith, z))
 
-  -- a ticket that is read, with its lists, has a schedule or none
+  -- no cause applies
   record Unrefused (k : Ticket) : Type 0 where
     room : 2200 ≤ length out
     holds : Holds ticket k
     lists : Listed k labels roster
     none : ¬ T (consistent k)
 
-  decide : ((x : ℕ) × Refused ticket labels roster out x) ⊎ ((k : Ticket) × Unrefused k)
+  abbrev Decision : Type 0
+  Decision = ((x : ℕ) × Refused ticket labels roster out x) ⊎ ((k : Ticket) × Unrefused k)
+
+  decide : Decision
   decide = ⊎-elim (λ (l : length out < 2200). inl (10, short refl l)) (λ (l : 2200 ≤ length out). read l (answered readTicket ticket)) (below-or-not (length out) 2200)
     where
-      scheduled : 2200 ≤ length out → (k : Ticket) → Holds ticket k → Listed k labels roster → (b : Bool) → consistent k ≡ b
-          → ((x : ℕ) × Refused ticket labels roster out x) ⊎ ((k : Ticket) × Unrefused k)
+      scheduled : 2200 ≤ length out → (k : Ticket) → Holds ticket k → Listed k labels roster → (b : Bool) → consistent k ≡ b → Decision
       scheduled l k h f true e =
           let s = consistent-has k .0 (rw e tt) in
           inl (17, possible k refl l h f (s .0) (s .1))
       scheduled l k h f false e = inr (k, record { room = l; holds = h; lists = f; none = λ t. subst T e t })
 
-      by-lists : 2200 ≤ length out → (k : Ticket) → Holds ticket k
-          → Listed k labels roster ⊎ ((wellFormed labels (events k) ≡ false) ⊎ ((wellFormed labels (events k) ≡ true) × (wellFormed roster 5 ≡ false)))
-          → ((x : ℕ) × Refused ticket labels roster out x) ⊎ ((k : Ticket) × Unrefused k)
+      by-lists : 2200 ≤ length out → (k : Ticket) → Holds ticket k → Listed k labels roster ⊎ Broken k labels roster → Decision
       by-lists l k h (inl f) = scheduled l k h f (consistent k) refl
-      by-lists l k h (inr (inl e)) = inl (16, unlisted k refl l h (λ f. true-or-false (wellFormed labels (events k)) (f .labelled) e))
-      by-lists l k h (inr (inr e)) = inl (16, unlisted k refl l h (λ f. true-or-false (wellFormed roster 5) (f .known) (e .1)))
+      by-lists l k h (inr (inl e)) = inl (16, unlisted k refl l h (λ f. not-both (wellFormed labels (events k)) (f .labelled) e))
+      by-lists l k h (inr (inr e)) = inl (16, unlisted k refl l h (λ f. not-both (wellFormed roster 5) (f .known) (e .1)))
 
-      read : 2200 ≤ length out → ((k : Ticket) × Holds ticket k) ⊎ ((c : Cause) × (wholly readTicket ticket ≡ refused c))
-          → ((x : ℕ) × Refused ticket labels roster out x) ⊎ ((k : Ticket) × Unrefused k)
-      read l (inl r) = by-lists l (r .0) (r .1) (lists-test (r .0) labels roster)
+      read : 2200 ≤ length out → ((k : Ticket) × Holds ticket k) ⊎ ((c : Cause) × (wholly readTicket ticket ≡ refused c)) → Decision
+      read l (inl r) = by-lists l (r .0) (r .1) (test-lists (r .0) labels roster)
       read l (inr r) = inl (number (r .0), unread (r .0) refl l (r .1))
 
   unrefused-is : (k : Ticket) → Unrefused k → answer ≡ printing (ringText k labels roster (ring k)) out
@@ -148,7 +150,7 @@ module _ (ticket labels roster out : List ℕ) where
     λ q. by q decide,
   )
     where
-      by : (answer .number ≡ x) × (x ≢ 0) → ((y : ℕ) × Refused ticket labels roster out y) ⊎ ((k : Ticket) × Unrefused k) → Refused ticket labels roster out x
+      by : (answer .number ≡ x) × (x ≢ 0) → Decision → Refused ticket labels roster out x
       by q (inl r) = subst (Refused ticket labels roster out) (sym (ap (λ (o : Outcome). o .number) (refused-is (r .0) (r .1) .0)) ∙ q .0) (r .1)
       by q (inr u) = absurd (q .1 (sym (q .0) ∙ ap (λ (o : Outcome). o .number) (unrefused-is (u .0) (u .1))))
 
@@ -191,7 +193,7 @@ module _ (ticket labels roster out : List ℕ) where
     pub reason-printed : (answer .number ≡ 0) ↔ ((k : Ticket) × (rules : List ℕ) × Explained ticket labels roster out answer k rules)
     reason-printed = (λ z. by z decide, λ e. e .2 .number-is)
       where
-        by : answer .number ≡ 0 → ((x : ℕ) × Refused ticket labels roster out x) ⊎ ((k : Ticket) × Unrefused k)
+        by : answer .number ≡ 0 → Decision
             → (k : Ticket) × (rules : List ℕ) × Explained ticket labels roster out answer k rules
         by z (inl r) =
             let q = refused-is (r .0) (r .1) in

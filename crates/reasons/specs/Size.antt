@@ -1,6 +1,6 @@
 -- How long the lines and the text of a ring are: 2,200 bytes hold a ring of at most 41 rules (02, change 2), and of a rule with its point at most 53.
 -- Rests on Text, on `names` for the length of a name, and on `rings` for the range of a bound.
-use Prim.Native.Nat.{ℕ, zero, suc, _+_, _*_, _≤_, _<_}
+use Prim.Native.Nat.{ℕ, zero, suc, _*_, _≤_, _<_}
 use mathlib.Core.Path.{_≡_}
 use mathlib.Core.Bool.{true}
 use mathlib.Core.List.{List, [], _∷_}

@@ -8,17 +8,16 @@ use mathlib.Core.Logic.{_↔_, _⊎_, inl, inr, ⊎-elim, _≢_}
 use Prim.Native.Nat.{ℕ, zero, suc, _+_, _*_, _-_, _≤_, _<_, min}
 use native.Mathlib.Decide.{ℕ-discrete}
 use native.Mathlib.Omega.{arith}
-use lib.Dec.{T, not-T, leb→le, ltb, ltb→lt, lt→ltb, eqb, eqb→eq, eqb-refl}
-use lib.IntN.{ℤ, pos, negsuc, subℕ}
+use lib.Dec.{T, not-T, leb→le, eqb, eqb→eq, eqb-refl}
+use lib.IntN.{ℤ, pos, negsuc}
 use lib.Signed.{_≤ℤ_}
 use lib.ListN.{length}
 use Rattle.temporal.specs.Lists.{All, All-map, T-true, T-false, below-or-not}
 use Rattle.temporal.specs.Bound.{above, below, biased}
 use Rattle.temporal.specs.Ticket.{Rule, Ticket, events}
-use Rattle.temporal.specs.DistanceLaws.{sub-eq}
 use Rattle.temporal.specs.Run.{Valid, ValidRule}
-use Rattle.paths.specs.Rules.{back, out, size, ruleAt, fromOf, toOf, boundOf, Number, Walk, sum}
-use Rattle.paths.specs.Walks.{ups, downs, sum-parts, rule-all}
+use Rattle.paths.specs.Rules.{back, out, size, ruleAt, fromOf, toOf, boundOf, Number, Walk}
+use Rattle.paths.specs.Walks.{ups, downs, rule-all}
 use Rattle.rings.specs.Ring.{startOf, Ring, eqb-eq}
 use Rattle.rings.specs.Loops.{ring-loop, walk-start, loop-ring}
 
@@ -69,11 +68,6 @@ module _ (k : Ticket) (w : ℕ → ℕ) (p : ℕ) where
   pub via-there : (e : ℕ) → fromOf k (suc e) ≢ p → via k w p (suc e) ≡ via k w p e
   unfolding via
   via-there e n = rw (T-false (eqb (fromOf k (suc e)) p) (not-T (eqb (fromOf k (suc e)) p) (λ t. n (eqb→eq (fromOf k (suc e)) p t)))) refl
-
-  pub via-top : (e : ℕ) → via k w p e ≤ top
-  unfolding via
-  via-top zero = omega arith
-  via-top (suc e) = omega (arith, via-top e, low-old (eqb (fromOf k (suc e)) p) (via k w p e) (cost k (suc e) + w (toOf k (suc e))))
 
   pub via-least : (e x : ℕ) → 1 ≤ x → x ≤ e → fromOf k x ≡ p → via k w p e ≤ cost k x + w (toOf k x)
   unfolding via
@@ -127,15 +121,6 @@ module _ (k : Ticket) (q : ℕ) where
   pub walks-more : (r p : ℕ) → walks k q (suc r) p ≡ via k (walks k q r) p (size k)
   unfolding walks
   walks-more r p = refl
-
-  pub walks-top : (r p : ℕ) → walks k q r p ≤ top
-  unfolding walks
-  walks-top zero p = by (eqb p q)
-    where
-      by : (b : Bool) → cond b 0 top ≤ top
-      by true = omega arith
-      by false = omega arith
-  walks-top (suc r) p = via-top k (walks k q r) p (size k)
 
   bounded : (es : List ℕ) (p : ℕ) → All (Number k) es → Walk k p es q → walks k q (length es) p ≤ costs k es
   unfolding walks costs
@@ -195,11 +180,6 @@ unfolding above
 above-valid (pos n) h = leb→le n 1000000 (h .le)
 above-valid (negsuc n) h = omega arith
 
-above-below : (c : ℤ) → subℕ (above c) (below c) ≡ c
-unfolding above below
-above-below (pos n) = rw (T-false (ltb n 0) (not-T (ltb n 0) (λ t. absurd (omega (arith, ltb→lt n 0 t))))) (ap pos (omega arith))
-above-below (negsuc n) = rw (T-true (ltb 0 (suc n)) (lt→ltb 0 (suc n) (omega arith))) (ap negsuc (omega arith))
-
 module _ (k : Ticket) (v : Valid k) where
   -- the bound of every rule lies between -1,000,000 and 1,000,000
   pub bound-below : (e : ℕ) → below (boundOf k e) ≤ 1000000
@@ -226,12 +206,6 @@ module _ (k : Ticket) (v : Valid k) where
   unfolding costs ups downs
   costs-parts [] = refl
   costs-parts (e ∷ es) = omega (arith, cost-parts e, costs-parts es)
-
-  -- the bounds sum to the cost less a million for each rule
-  pub sum-costs : (es : List ℕ) → subℕ (costs k es) (length es * 1000000) ≡ sum k es
-  sum-costs es =
-      let s : ℤ = sum k es in
-      sub-eq (costs k es) (length es * 1000000) (above s) (below s) (omega (arith, costs-parts es, sum-parts k es)) ∙ above-below s
 
   -- a ring of r rules costs less than r × 1,000,000
   pub ring-costs : (es : List ℕ) → Ring k es → costs k es < length es * 1000000

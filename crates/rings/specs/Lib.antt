@@ -12,7 +12,7 @@
 --   such list: `printed-ring`; its points and rules are all different: `ring-points`, `ring-differ`; it has at most 41 rules: `ring-valid`. A ring of the
 --   fewest rules can be started at its lowest number in one way only: `started-once`. Where a schedule exists it is []: `ring-none`, `fewest-zero` (Printed).
 --   For the code: the least cost of a walk of r rules is attained and the least, and is found by rounds over the rules: `walks-least`, `walks-attained`,
---   `walks-more`, `sum-costs`, `walks-ring` (Costs). The ring is found rule by rule: `shortest-fewest`, `ring-greedy`, `ring-found`; one step of the search:
+--   `walks-more`, `walks-ring` (Costs). The ring is found rule by rule: `shortest-fewest`, `ring-greedy`, `ring-found`; one step of the search:
 --   `starts-some`, `greedy-more`, `continues-some`, `rest-more` (Greedy).
 pub mod Order
 pub mod Turns

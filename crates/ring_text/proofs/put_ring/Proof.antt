@@ -1,9 +1,8 @@
 -- `ring_text::put_ring` meets its contract: the arrays of the struct are a sheet of the ticket. Assumes nothing.
-use Prim.Native.Nat.{_≤_}
 use mathlib.Core.Path.{_≡_, ap, _∙_}
 use native.Mathlib.Omega.{arith}
 use borrow.Author.Needs.{needs}
-use lib.ListN.{length, take}
+use lib.ListN.{take}
 use Rattle.text.specs.Stores.{puts-as}
 use Rattle.ring_text.specs.Sheet.{sheetIn, pointText, sheet-text, sheet-ready}
 use Rattle.ring_text.specs.Lines.{ringFrom, ring-whole}
