@@ -34,8 +34,7 @@ table: library
 reason: TICKET = examples/tickets/p6-impossible.txt
 reason: library
 	$(CC) -std=c99 -O2 -Iinclude examples/reason.c $(ARCHIVE) -o target/reason
-	tools/ticket encode $(TICKET) target/ticket
-	tools/ticket labels $(TICKET) target/labels
+	tools/ticket encode $(TICKET) target/ticket target/labels
 	target/reason target/labels $(ROSTER) target/ticket | tools/ticket reason $(TICKET)
 
 install: library

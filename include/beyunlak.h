@@ -88,8 +88,8 @@
  *     buffers (see below).
  *   - While a call runs, nobody else writes its input or touches its output.
  *   Calls in several threads need no lock where each has memory of its own. Every function ends after a
- *   bounded number of steps, whatever it is given, and uses less than 40 kilobytes of stack, beyunlak_reason
- *   less than TODO-STACK (measured; it depends on how the library was compiled).
+ *   bounded number of steps, whatever it is given, and uses less than 40 kilobytes of stack (measured; it
+ *   depends on how the library was compiled).
  *   Bytes from a stranger are safe: they are refused or accepted, and never read or written past their length.
  *
  * EXAMPLE (examples/host.c is a whole program)

@@ -227,7 +227,8 @@ labelled() {
     { echo horizon 9; for name in $1; do echo "event $name stage"; done; } >"$work/text"
     # shellcheck disable=SC2086
     printf '%s\n' $2 >"$work/wanted"
-    tools/ticket labels "$work/text" | tools/ticket names >"$work/got"
+    tools/ticket encode "$work/text" "$work/made" "$work/labels"
+    tools/ticket names "$work/labels" >"$work/got"
     same "labels of '$1'" "$work/wanted" "$work/got"
 }
 labelled 'later sooner' 'later sooner'
@@ -244,17 +245,18 @@ labelled 'Eventb eventb event-b' 'eventa eventb eventc'
         printf 'event event%s stage\nevent %s-%s stage\n' $letters $letters $letters
     done
 } >"$work/text"
-tools/ticket labels "$work/text" | tools/ticket names >"$work/got"
+tools/ticket encode "$work/text" "$work/made" "$work/labels"
+tools/ticket names "$work/labels" >"$work/got"
 sort -u "$work/got" | grep -c -x '[a-z]\{1,16\}' >"$work/count"
 echo 40 >"$work/wanted"
 same 'forty labels' "$work/wanted" "$work/count"
-tools/ticket labels examples/tickets/p8.txt >"$work/got"
+tools/ticket encode examples/tickets/p8.txt "$work/made" "$work/got"
 bytes '0000' >"$work/wanted"
 same 'labels of no events' "$work/wanted" "$work/got"
 printf 'horizon 9\nevent 1a stage\n' >"$work/text"
-rm -f "$work/made"
-tools/ticket labels "$work/text" "$work/made" 2>"$work/errors"
-if [ $? -eq 1 ] && [ ! -e "$work/made" ] && grep -q "^$work/text:2: " "$work/errors"; then pass; else fail 'labels refuses'; fi
+rm -f "$work/made" "$work/labels"
+tools/ticket encode "$work/text" "$work/made" "$work/labels" 2>"$work/errors"
+if [ $? -eq 1 ] && [ ! -e "$work/made" ] && [ ! -e "$work/labels" ] && grep -q "^$work/text:2: " "$work/errors"; then pass; else fail 'encode with labels refuses'; fi
 
 # gives NAME TEXT RING WANTED STATUS: the ring with names, or why it is refused; / stands for a line end
 gives() {
@@ -306,7 +308,7 @@ for number in 16 17; do
     echo "refused $number" | tools/ticket explain >"$work/got" 2>"$work/errors"
     if [ $? -eq 1 ] && grep -q "^refused $number: ...*" "$work/errors" && [ ! -s "$work/got" ]; then pass; else fail "explain $number"; fi
 done
-for command in 'labels' 'list' 'reason' 'names a b' 'labels a b c' 'list a b c' 'reason a b c'; do
+for command in 'list' 'reason' 'names a b' 'encode a b c d' 'list a b c' 'reason a b c'; do
     # shellcheck disable=SC2086
     tools/ticket $command >"$work/got" 2>"$work/errors"
     if [ $? -eq 2 ] && [ ! -s "$work/got" ]; then pass; else fail "the wrong call '$command'"; fi
@@ -395,7 +397,7 @@ done <"$work/reasons"
 
 # files: the ticket named, files that are too long, files that are not there
 cp examples/tickets/p7-impossible.ticket "$work/ticket"
-tools/ticket labels $p7 >"$work/labels"
+tools/ticket encode $p7 "$work/made" "$work/labels"
 printf 'at last stage\nby 1 -11\nat start\nby 3 10\n' >"$work/wanted"
 "$work/reason" "$work/labels" examples/roster.names "$work/ticket" <&- >"$work/got"
 same 'reason of a ticket that is named' "$work/wanted" "$work/got"

@@ -23,8 +23,8 @@ use Rattle.ring.specs.declared.Found.{Found}
 use Rattle.ring.specs.declared.Start.{Start}
 use Rattle.ring.specs.Answer.{printed}
 use Rattle.ring.specs.Places.{Whole, from-point, to-point}
-use Rattle.ring.specs.Lowest.{Lowest, lowest-start, lowest-join, lowest-same, lowest-first, lowest-some}
-use Rattle.ring.specs.Table.{cell, Table}
+use Rattle.ring.specs.FirstOr.{FirstOr, first-or-start, first-or-join, first-or-same, first-or-first, first-or-some}
+use Rattle.ring.specs.WalkTable.{cell, WalkTable}
 
 -- ---- the answer
 
@@ -42,30 +42,30 @@ Through k q r = (p : ℕ) × (p < q) × T (through k r p)
 pub record Nearest (n m : ℕ) (fs ts cs : List ℕ) (q best : ℕ) : Type 0 where
   pub low : 1 ≤ best
   pub high : best ≤ n + 2
-  pub is : (k : Ticket) → Whole k m fs ts cs → Lowest (Through k q) (n + 2) best
+  pub is : (k : Ticket) → Whole k m fs ts cs → FirstOr (Through k q) (n + 2) best
 
 nearest-none : {n m : ℕ} {fs ts cs : List ℕ} → Nearest n m fs ts cs 0 (n + 2)
 nearest-none {n} = record {
   low = omega arith;
   high = omega arith;
-  is = λ k a. lowest-start (n + 2) (omega arith) (λ x s l h. absurd (omega (arith, h .1)));
+  is = λ k a. first-or-start (n + 2) (omega arith) (λ x s l h. absurd (omega (arith, h .1)));
 }
 
 -- one point more, by its table
-nearest-more : {n m : ℕ} {fs ts cs w : List ℕ} {q best next : ℕ} → q ≤ 40 → Nearest n m fs ts cs q best → Table m fs ts cs q (best - 1) w
-    → Lowest (λ x. cell w x q < x * 1000000) best next → Nearest n m fs ts cs (q + 1) next
+nearest-more : {n m : ℕ} {fs ts cs w : List ℕ} {q best next : ℕ} → q ≤ 40 → Nearest n m fs ts cs q best → WalkTable m fs ts cs q (best - 1) w
+    → FirstOr (λ x. cell w x q < x * 1000000) best next → Nearest n m fs ts cs (q + 1) next
 nearest-more {n} {m} {fs} {ts} {cs} {w} {q} {best} {next} lq h t g = record {
   low = g .low;
   high = omega (arith, g .high, h .high);
   is = λ k a.
-      lowest-join (h .is k a) (here k a) (λ x s l p. (p .0, omega (arith, p .1), p .2)) (λ x s l p. (q, omega arith, p))
+      first-or-join (h .is k a) (here k a) (λ x s l p. (p .0, omega (arith, p .1), p .2)) (λ x s l p. (q, omega arith, p))
       (λ x s l p. last k x (p .0) (p .1) (p .2));
 }
   where
-    here : (k : Ticket) → Whole k m fs ts cs → Lowest (λ x. T (through k x q)) best next
+    here : (k : Ticket) → Whole k m fs ts cs → FirstOr (λ x. T (through k x q)) best next
     here k a =
         let at : (x : ℕ) → x < best → cell w x q ≡ walks k q x q = λ x l. t .is k a x q (omega arith) lq in
-        lowest-same g (λ x s l (p : cell w x q < x * 1000000). through-iff k x q .1 (omega (arith, at x l)))
+        first-or-same g (λ x s l (p : cell w x q < x * 1000000). through-iff k x q .1 (omega (arith, at x l)))
         (λ x s l p. omega (arith, at x l, through-iff k x q .0 p))
 
     last : (k : Ticket) (x y : ℕ) → y < q + 1 → T (through k x y) → Through k q x ⊎ T (through k x q)
@@ -78,10 +78,10 @@ nearest-more {n} {m} {fs} {ts} {cs} {w} {q} {best} {next} lq h t g = record {
 
 -- all points
 module _ {n m : ℕ} {fs ts cs : List ℕ} {best : ℕ} (h : Nearest n m fs ts cs (n + 1) best) (k : Ticket) (a : Whole k m fs ts cs) (e : events k ≡ n) where
-  any : Lowest (λ r. T (anyUpto (through k r) (events k))) (suc (suc (events k))) best
+  any : FirstOr (λ r. T (anyUpto (through k r) (events k))) (suc (suc (events k))) best
   any =
       let b : n + 2 ≡ suc (suc (events k)) = omega arith in
-      lowest-same (rw b at (h .is k a))
+      first-or-same (rw b at (h .is k a))
       (λ x s l p. has-any (through k x) (events k) (p .0) (omega (arith, p .1)) (p .2))
       (λ x s l p. let r = any-has (through k x) (events k) p in (r .0, omega (arith, r .1), r .2))
 
@@ -89,7 +89,7 @@ module _ {n m : ℕ} {fs ts cs : List ℕ} {best : ℕ} (h : Nearest n m fs ts c
   unfolding shortest
   nearest-some l =
       let t : ℕ → Bool = λ r. anyUpto (through k r) (events k) in
-      seek-is t 1 (suc (events k)) best (lowest-first t (suc (events k)) best any (omega arith))
+      seek-is t 1 (suc (events k)) best (first-or-first t (suc (events k)) best any (omega arith))
 
   nearest-through : best ≤ n + 1 → (p : ℕ) × (walks k p best p < best * 1000000)
   nearest-through l =
@@ -106,7 +106,7 @@ module _ {n m : ℕ} {fs ts cs : List ℕ} {best : ℕ} (h : Nearest n m fs ts c
 abbrev pub opens : List ℕ → List ℕ → List ℕ → List ℕ → ℕ → ℕ → ℕ → ℕ → ℕ → Bool
 opens fs ts cs w r s limit p e = eqb (getD fs e 0) p && ltb (s + getD cs e 0 + cell w r (getD ts e 0)) limit
 
-opens-continues : {k : Ticket} {m : ℕ} {fs ts cs w : List ℕ} {q last : ℕ} → Whole k m fs ts cs → Table m fs ts cs q last w
+opens-continues : {k : Ticket} {m : ℕ} {fs ts cs w : List ℕ} {q last : ℕ} → Whole k m fs ts cs → WalkTable m fs ts cs q last w
     → (r s limit p e : ℕ) → r ≤ last → 1 ≤ e → e ≤ m → opens fs ts cs w r s limit p e ≡ continues k q limit s p r e
 unfolding continues
 opens-continues {k} {m} {fs} {ts} {cs} {w} {q} a t r s limit p e lr le lm =
@@ -126,14 +126,14 @@ Starts k r q e = (fromOf k e < q) × T (starts k r e)
 pub record Opening (m : ℕ) (fs ts cs : List ℕ) (r q e : ℕ) : Type 0 where
   pub low : 1 ≤ e
   pub high : e ≤ m + 1
-  pub is : (k : Ticket) → Whole k m fs ts cs → Lowest (Starts k r q) (m + 1) e
+  pub is : (k : Ticket) → Whole k m fs ts cs → FirstOr (Starts k r q) (m + 1) e
 
 -- where no ring of r + 1 rules goes through one of the first q points, no rule from there can start one
 opening-none : {m : ℕ} {fs ts cs : List ℕ} {r q : ℕ} → ((k : Ticket) → Whole k m fs ts cs → ¬ Through k q (suc r)) → Opening m fs ts cs r q (m + 1)
 opening-none {m} {fs} {ts} {cs} {r} n = record {
   low = omega arith;
   high = omega arith;
-  is = λ k a. lowest-start (m + 1) (omega arith) (λ x s l h. n k a (fromOf k x, h .0, passes k x s (omega (arith, a .count)) (h .1)));
+  is = λ k a. first-or-start (m + 1) (omega arith) (λ x s l h. n k a (fromOf k x, h .0, passes k x s (omega (arith, a .count)) (h .1)));
 }
   where
     passes : (k : Ticket) (x : ℕ) → 1 ≤ x → x ≤ size k → T (starts k r x) → T (through k (suc r) (fromOf k x))
@@ -142,13 +142,13 @@ opening-none {m} {fs} {ts} {cs} {r} n = record {
         through-iff k (suc r) p .1 (omega (arith, starts-iff k r x .0 h, walks-more k p r p, via-least k (walks k p r) p (size k) x s l refl))
 
 -- one point more, by its table
-opening-more : {m : ℕ} {fs ts cs w : List ℕ} {r last q e f : ℕ} → r ≤ last → Opening m fs ts cs r q e → Table m fs ts cs q last w
-    → Lowest (λ x. T (opens fs ts cs w r 0 ((r + 1) * 1000000) q x)) e f → Opening m fs ts cs r (q + 1) f
+opening-more : {m : ℕ} {fs ts cs w : List ℕ} {r last q e f : ℕ} → r ≤ last → Opening m fs ts cs r q e → WalkTable m fs ts cs q last w
+    → FirstOr (λ x. T (opens fs ts cs w r 0 ((r + 1) * 1000000) q x)) e f → Opening m fs ts cs r (q + 1) f
 opening-more {m} {fs} {ts} {cs} {w} {r} {last} {q} {e} {f} lr h t g = record {
   low = g .low;
   high = omega (arith, g .high, h .high);
   is = λ k a.
-      lowest-join (h .is k a) g (λ x s l p. (omega (arith, p .0), p .1)) (λ x s l p. there k a x s (omega arith) p)
+      first-or-join (h .is k a) g (λ x s l p. (omega (arith, p .0), p .1)) (λ x s l p. there k a x s (omega arith) p)
       (λ x s l p. back k a x s (omega arith) p);
 }
   where
@@ -176,9 +176,9 @@ opening-first : {m : ℕ} {fs ts cs : List ℕ} {r q e : ℕ} (k : Ticket) → W
     → (p : ℕ) → walks k p (suc r) p < suc r * 1000000 → First (starts k r) 1 (size k) e
 opening-first {m} {r = r} {e = e} k a lr lq h p l =
     let b : m + 1 ≡ suc (size k) = omega (arith, a .count) in
-    let z : Lowest (λ x. T (starts k r x)) (suc (size k)) e =
-    lowest-same (rw b at (h .is k a)) (λ x s i p. p .1) (λ x s i p. (omega (arith, from-point k (a .valid) x), p)) in
-    lowest-first (starts k r) (size k) e z (lowest-some (starts k r) (size k) e z _ (starts-some k r p lr l))
+    let z : FirstOr (λ x. T (starts k r x)) (suc (size k)) e =
+    first-or-same (rw b at (h .is k a)) (λ x s i p. p .1) (λ x s i p. (omega (arith, from-point k (a .valid) x), p)) in
+    first-or-first (starts k r) (size k) e z (first-or-some (starts k r) (size k) e z _ (starts-some k r p lr l))
 
 -- ---- the start
 
@@ -195,9 +195,9 @@ pub record Joins (m : ℕ) (fs ts cs : List ℕ) (q : ℕ) (s r : Start) : Type 
   pub is : (n : ℕ) → Begins n m fs ts cs q s → Begins n m fs ts cs (q + 1) r
 
 -- by its table: the first rule is looked for below the one found before, or below all if there are fewer rules now
-pub joins : {m : ℕ} {fs ts cs w : List ℕ} {q count end first : ℕ} {s : Start} → q ≤ 40 → Table m fs ts cs q (s .count - 1) w
-    → Lowest (λ x. cell w x q < x * 1000000) (s .count) count → ((count < s .count) × (end ≡ m + 1)) ⊎ ((s .count ≤ count) × (end ≡ s .first))
-    → Lowest (λ x. T (opens fs ts cs w (count - 1) 0 (count * 1000000) q x)) end first → Joins m fs ts cs q s (record { count = count; first = first })
+pub joins : {m : ℕ} {fs ts cs w : List ℕ} {q count end first : ℕ} {s : Start} → q ≤ 40 → WalkTable m fs ts cs q (s .count - 1) w
+    → FirstOr (λ x. cell w x q < x * 1000000) (s .count) count → ((count < s .count) × (end ≡ m + 1)) ⊎ ((s .count ≤ count) × (end ≡ s .first))
+    → FirstOr (λ x. T (opens fs ts cs w (count - 1) 0 (count * 1000000) q x)) end first → Joins m fs ts cs q s (record { count = count; first = first })
 joins {m} {fs} {ts} {cs} {q = q} {count} {end} {s = s} lq t g b f =
     let c : count - 1 + 1 ≡ count = omega (arith, g .low) in
     record {
@@ -236,9 +236,9 @@ followed-first {m} {fs} {ts} {cs} k r e a f =
     let d : suc r - 1 ≡ r = omega arith in
     rw (c, t) (record { rules = e ∷ []; many = refl; stored = refl; left = rw d (greedy-more k r e f); closing = rw d (starts-iff k r e .0 (f .passes)) })
 
-followed-more : {m : ℕ} {fs ts cs w out : List ℕ} {q last i s p e : ℕ} (k : Ticket) (count : ℕ) → Whole k m fs ts cs → Table m fs ts cs q last w
+followed-more : {m : ℕ} {fs ts cs w out : List ℕ} {q last i s p e : ℕ} (k : Ticket) (count : ℕ) → Whole k m fs ts cs → WalkTable m fs ts cs q last w
     → count ≤ 41 → i < count → count - 1 - i ≤ last → Followed k count q i s p out
-    → Lowest (λ x. T (opens fs ts cs w (count - 1 - i) s (count * 1000000) p x)) (m + 1) e
+    → FirstOr (λ x. T (opens fs ts cs w (count - 1 - i) s (count * 1000000) p x)) (m + 1) e
     → Followed k count q (i + 1) (s + getD cs e 0) (getD ts e 0) (set out i e)
 unfolding top
 followed-more {m} {fs} {ts} {cs} {w} {out} {q} {last} {i} {s} {p} {e} k count a t lc li lr h g =
@@ -247,11 +247,11 @@ followed-more {m} {fs} {ts} {cs} {w} {out} {q} {last} {i} {s} {p} {e} k count a 
     let d : count - i ≡ suc r = omega arith in
     let d' : count - (i + 1) ≡ r = omega arith in
     let b : m + 1 ≡ suc (size k) = omega (arith, a .count) in
-    let z : Lowest (λ x. T (continues k q limit s p r x)) (suc (size k)) e =
-    lowest-same (rw b at g) (λ x u l y. subst T (opens-continues a t r s limit p x lr u (omega (arith, a .count))) y)
+    let z : FirstOr (λ x. T (continues k q limit s p r x)) (suc (size k)) e =
+    first-or-same (rw b at g) (λ x u l y. subst T (opens-continues a t r s limit p x lr u (omega (arith, a .count))) y)
     (λ x u l y. subst T (sym (opens-continues a t r s limit p x lr u (omega (arith, a .count)))) y) in
     let some = continues-some k q limit (omega arith) s p r (rw d at (h .closing)) in
-    let f = lowest-first (continues k q limit s p r) (size k) e z (lowest-some (continues k q limit s p r) (size k) e z _ some) in
+    let f = first-or-first (continues k q limit s p r) (size k) e z (first-or-some (continues k q limit s p r) (size k) e z _ some) in
     let le : e ≤ m = omega (arith, f .below, a .count) in
     let c : getD cs e 0 ≡ cost k e = a .filled .cost-is e (f .above) le in
     let v : getD ts e 0 ≡ toOf k e = a .filled .to-is e (f .above) le in
@@ -273,7 +273,7 @@ followed-all {q} {i} {s} {p} k count e h =
 -- the same of the code, by the table of the root that `first` goes from: if it is the rule that the ring starts with
 abbrev Started : ℕ → List ℕ → List ℕ → List ℕ → List ℕ → ℕ → ℕ → (Ticket → Type 0) → Type 0
 Started m fs ts cs w first count P =
-    (k : Ticket) → Whole k m fs ts cs → Table m fs ts cs (fromOf k first) (count - 1) w → First (starts k (count - 1)) 1 (size k) first → P k
+    (k : Ticket) → Whole k m fs ts cs → WalkTable m fs ts cs (fromOf k first) (count - 1) w → First (starts k (count - 1)) 1 (size k) first → P k
 
 pub record Following (m : ℕ) (fs ts cs w : List ℕ) (first count i s p : ℕ) (out : List ℕ) : Type 0 where
   pub is : Started m fs ts cs w first count (λ k. Followed k count (fromOf k first) i s p out)
@@ -293,7 +293,7 @@ module _ {m : ℕ} {fs ts cs w : List ℕ} {first count : ℕ} {out : List ℕ} 
       }
 
   module _ {i s p : ℕ} (h : Following m fs ts cs w first count i s p out) where
-    pub following-more : {e : ℕ} → count ≤ 41 → i < count → Lowest (λ x. T (opens fs ts cs w (count - 1 - i) s (count * 1000000) p x)) (m + 1) e
+    pub following-more : {e : ℕ} → count ≤ 41 → i < count → FirstOr (λ x. T (opens fs ts cs w (count - 1 - i) s (count * 1000000) p x)) (m + 1) e
         → Following m fs ts cs w first count (i + 1) (s + getD cs e 0) (getD ts e 0) (set out i e)
     following-more lc li g = record { is = λ k a t f. followed-more k count a t lc li (omega arith) (h .is k a t f) g }
 
@@ -319,7 +319,7 @@ module _ {n m : ℕ} {fs ts cs : List ℕ} {s : Start} (h : Begins n m fs ts cs 
   answers-none l = record { is = λ k a e. found-none k a (nearest-not (h .nearest) k a e l) }
 
   -- none does
-  pub answers-some : {w out : List ℕ} → n ≤ 40 → s .count ≤ n + 1 → Table m fs ts cs (getD fs (s .first) 0) (s .count - 1) w
+  pub answers-some : {w out : List ℕ} → n ≤ 40 → s .count ≤ n + 1 → WalkTable m fs ts cs (getD fs (s .first) 0) (s .count - 1) w
       → Follows m fs ts cs w (s .first) (s .count) out → Answers n m fs ts cs (record { count = s .count; rules = out })
   answers-some ln l t f = record {
     is = λ k a e.

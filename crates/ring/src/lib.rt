@@ -12,9 +12,8 @@ ghost use Rattle.ticket.specs.Writing.{content};
 ghost use Rattle.ticket.specs.Stored.{pad};
 ghost use Rattle.rings.specs.Ring as theory;
 ghost use Rattle.ring.specs.Places.{Small, Filled};
-ghost use Rattle.ring.specs.Lowest.{Lowest};
-ghost use Rattle.ring.specs.Table as table;
-ghost use Rattle.ring.specs.Table.{cell, Ready, Round};
+ghost use Rattle.ring.specs.FirstOr.{FirstOr};
+ghost use Rattle.ring.specs.WalkTable.{WalkTable, cell, Ready, Round};
 ghost use Rattle.ring.specs.Answer.{printed};
 ghost use Rattle.ring.specs.Search.{opens, Begins, Joins, Follows, Answers};
 
@@ -164,7 +163,7 @@ fn walks_to<'a>(
 ) -> [u32; 1722]
     requires { ⌜ Small (now from) (now to) (now cost) ⌝ }
     requires { ⌜ (q ≤ 40) × (last ≤ 41) × (m ≤ 336) ⌝ }
-    ensures { λ r. ⌜ table.Table m (now (from .entry)) (now (to .entry)) (now (cost .entry)) q last r ⌝ }
+    ensures { λ r. ⌜ WalkTable m (now (from .entry)) (now (to .entry)) (now (cost .entry)) q last r ⌝ }
 {
     let mut w = blank();
     w[q] = 0;
@@ -181,7 +180,7 @@ fn walks_to<'a>(
 // The fewest rules, below `best`, of a ring through root q; `best` if there is none.
 fn nearer(w: &[u32; 1722], q: usize, best: usize) -> usize
     requires { ⌜ (q ≤ 40) × (1 ≤ best) × (best ≤ 42) ⌝ }
-    ensures { λ r. ⌜ Lowest (λ x. cell (now (w .entry)) x q < x * 1000000) best r ⌝ }
+    ensures { λ r. ⌜ FirstOr (λ x. cell (now (w .entry)) x q < x * 1000000) best r ⌝ }
 {
     let mut r = 1;
     while r < best {
@@ -215,7 +214,7 @@ fn pick<'a>(
     requires { ⌜ Small (now from) (now to) (now cost) ⌝ }
     requires { ⌜ ((i : ℕ) → getD (now w) i 0 ≤ 1000000000) ⌝ }
     requires { ⌜ (r ≤ 41) × (s ≤ 100000000) × (1 ≤ end) × (end ≤ 338) ⌝ }
-    ensures { λ e. ⌜ Lowest (λ x. T (opens (now (from .entry)) (now (to .entry)) (now (cost .entry)) (now (w .entry)) r s limit p x)) end e ⌝ }
+    ensures { λ e. ⌜ FirstOr (λ x. T (opens (now (from .entry)) (now (to .entry)) (now (cost .entry)) (now (w .entry)) r s limit p x)) end e ⌝ }
 {
     let mut e = 1;
     while e < end {

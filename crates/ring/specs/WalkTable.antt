@@ -19,7 +19,7 @@ abbrev pub cell : List ℕ → ℕ → ℕ → ℕ
 cell w r p = getD w (41 * r + p) 0
 
 -- rows 0 to r hold the least costs of the walks to q, and the rows behind them "no walk"
-pub record Table (m : ℕ) (fs ts cs : List ℕ) (q r : ℕ) (w : List ℕ) : Type 0 where
+pub record WalkTable (m : ℕ) (fs ts cs : List ℕ) (q r : ℕ) (w : List ℕ) : Type 0 where
   pub long : length w ≡ 1722
   pub most : (i : ℕ) → getD w i 0 ≤ 1000000000
   pub clear : (i : ℕ) → 41 * r + 41 ≤ i → i < 1722 → getD w i 0 ≡ 1000000000
@@ -39,7 +39,7 @@ pub record Ready (r : ℕ) (w : List ℕ) : Type 0 where
   pub most : (i : ℕ) → getD w i 0 ≤ 1000000000
   pub clear : (p : ℕ) → p ≤ 40 → cell w (r + 1) p ≡ 1000000000
 
-pub table-ready : {m : ℕ} {fs ts cs : List ℕ} {q r : ℕ} {w : List ℕ} → r ≤ 40 → Table m fs ts cs q r w → Ready r w
+pub table-ready : {m : ℕ} {fs ts cs : List ℕ} {q r : ℕ} {w : List ℕ} → r ≤ 40 → WalkTable m fs ts cs q r w → Ready r w
 table-ready {r = r} l h = record { long = h .long; most = h .most; clear = λ p b. h .clear (41 * (r + 1) + p) (omega arith) (omega arith) }
 
 -- ---- one round
@@ -103,8 +103,8 @@ unfolding via
 via-same k f g p zero h = refl
 via-same k f g p (suc e) h = rw (via-same k f g p e h, h (suc e)) refl
 
-pub table-more : {m : ℕ} {fs ts cs : List ℕ} {q r : ℕ} {before after : List ℕ} → Table m fs ts cs q r before → Round m fs ts cs r m before after
-    → Table m fs ts cs q (r + 1) after
+pub table-more : {m : ℕ} {fs ts cs : List ℕ} {q r : ℕ} {before after : List ℕ} → WalkTable m fs ts cs q r before → Round m fs ts cs r m before after
+    → WalkTable m fs ts cs q (r + 1) after
 table-more {m} {fs} {ts} {cs} {q} {r} {before} {after} h g = record {
   long = g .long;
   most = g .most;
@@ -120,7 +120,7 @@ table-more {m} {fs} {ts} {cs} {q} {r} {before} {after} h g = record {
 
 -- no rules: 0 at q, and no walk from elsewhere
 pub table-none : {m : ℕ} {fs ts cs : List ℕ} (q : ℕ) (w : List ℕ) → q ≤ 40 → length w ≡ 1722 → ((i : ℕ) → i < 1722 → getD w i 0 ≡ 1000000000)
-    → ((i : ℕ) → getD w i 0 ≤ 1000000000) → Table m fs ts cs q 0 (set w q 0)
+    → ((i : ℕ) → getD w i 0 ≤ 1000000000) → WalkTable m fs ts cs q 0 (set w q 0)
 unfolding top
 table-none q w l n h b = record {
   long = length-set w q 0 ∙ n;

@@ -9,7 +9,7 @@ use Rattle.temporal.specs.Lists.{below-or-not}
 use Rattle.rings.specs.Order.{First}
 
 -- e is the first number from 1 on and below b that P holds of; b if there is none
-pub record Lowest (P : ℕ → Type 0) (b e : ℕ) : Type 0 where
+pub record FirstOr (P : ℕ → Type 0) (b e : ℕ) : Type 0 where
   pub low : 1 ≤ e
   pub high : e ≤ b
   pub none : (x : ℕ) → 1 ≤ x → x < e → ¬ P x
@@ -36,21 +36,21 @@ passed-more {P} {e} h n = record {
       (below-or-not x e);
 }
 
-pub lowest-here : {P : ℕ → Type 0} {b e : ℕ} → Passed P e → e < b → P e → Lowest P b e
-lowest-here h l p = record { low = h .low; high = omega arith; none = h .none; here = λ s. p }
+pub first-or-here : {P : ℕ → Type 0} {b e : ℕ} → Passed P e → e < b → P e → FirstOr P b e
+first-or-here h l p = record { low = h .low; high = omega arith; none = h .none; here = λ s. p }
 
-pub lowest-end : {P : ℕ → Type 0} {b e : ℕ} → Passed P e → e ≤ b → b ≤ e → Lowest P b e
-lowest-end h l s = record { low = h .low; high = l; none = h .none; here = λ x. absurd (omega arith) }
+pub first-or-end : {P : ℕ → Type 0} {b e : ℕ} → Passed P e → e ≤ b → b ≤ e → FirstOr P b e
+first-or-end h l s = record { low = h .low; high = l; none = h .none; here = λ x. absurd (omega arith) }
 
 -- ---- several loops, each below what the one before it found
 
-pub lowest-start : {P : ℕ → Type 0} (b : ℕ) → 1 ≤ b → ((x : ℕ) → 1 ≤ x → x < b → ¬ P x) → Lowest P b b
-lowest-start b l n = record { low = l; high = omega arith; none = n; here = λ s. absurd (omega arith) }
+pub first-or-start : {P : ℕ → Type 0} (b : ℕ) → 1 ≤ b → ((x : ℕ) → 1 ≤ x → x < b → ¬ P x) → FirstOr P b b
+first-or-start b l n = record { low = l; high = omega arith; none = n; here = λ s. absurd (omega arith) }
 
 -- R holds where P or Q does
-pub lowest-join : {P Q R : ℕ → Type 0} {b e f : ℕ} → Lowest P b e → Lowest Q e f → ((x : ℕ) → 1 ≤ x → x < b → P x → R x)
-    → ((x : ℕ) → 1 ≤ x → x < b → Q x → R x) → ((x : ℕ) → 1 ≤ x → x < b → R x → P x ⊎ Q x) → Lowest R b f
-lowest-join {P} {Q} {R} {b} {e} {f} h g p q r = record {
+pub first-or-join : {P Q R : ℕ → Type 0} {b e f : ℕ} → FirstOr P b e → FirstOr Q e f → ((x : ℕ) → 1 ≤ x → x < b → P x → R x)
+    → ((x : ℕ) → 1 ≤ x → x < b → Q x → R x) → ((x : ℕ) → 1 ≤ x → x < b → R x → P x ⊎ Q x) → FirstOr R b f
+first-or-join {P} {Q} {R} {b} {e} {f} h g p q r = record {
   low = g .low;
   high = omega (arith, h .high, g .high);
   none = λ x a l y. ⊎-elim (h .none x a (omega (arith, g .high))) (g .none x a l) (r x a (omega (arith, g .high, h .high)) y);
@@ -63,9 +63,9 @@ lowest-join {P} {Q} {R} {b} {e} {f} h g p q r = record {
 }
 
 -- two that agree
-pub lowest-same : {P Q : ℕ → Type 0} {b e : ℕ} → Lowest P b e → ((x : ℕ) → 1 ≤ x → x < b → P x → Q x)
-    → ((x : ℕ) → 1 ≤ x → x < b → Q x → P x) → Lowest Q b e
-lowest-same h p q = record {
+pub first-or-same : {P Q : ℕ → Type 0} {b e : ℕ} → FirstOr P b e → ((x : ℕ) → 1 ≤ x → x < b → P x → Q x)
+    → ((x : ℕ) → 1 ≤ x → x < b → Q x → P x) → FirstOr Q b e
+first-or-same h p q = record {
   low = h .low;
   high = h .high;
   none = λ x a l y. h .none x a l (q x a (omega (arith, h .high)) y);
@@ -74,9 +74,9 @@ lowest-same h p q = record {
 
 -- ---- tests
 
-module _ (t : ℕ → Bool) (n e : ℕ) (h : Lowest (λ x. T (t x)) (suc n) e) where
-  pub lowest-first : e ≤ n → First t 1 n e
-  lowest-first l = record {
+module _ (t : ℕ → Bool) (n e : ℕ) (h : FirstOr (λ x. T (t x)) (suc n) e) where
+  pub first-or-first : e ≤ n → First t 1 n e
+  first-or-first l = record {
     passes = h .here (omega arith);
     above = h .low;
     below = omega arith;
@@ -84,5 +84,5 @@ module _ (t : ℕ → Bool) (n e : ℕ) (h : Lowest (λ x. T (t x)) (suc n) e) w
   }
 
   -- where a number passes, it is found
-  pub lowest-some : (x : ℕ) → First t 1 n x → e ≤ n
-  lowest-some x f = ⊎-elim (λ (s : n < e). absurd (h .none x (f .above) (omega (arith, f .below)) (f .passes))) (λ (s : e ≤ n). s) (below-or-not n e)
+  pub first-or-some : (x : ℕ) → First t 1 n x → e ≤ n
+  first-or-some x f = ⊎-elim (λ (s : n < e). absurd (h .none x (f .above) (omega (arith, f .below)) (f .passes))) (λ (s : e ≤ n). s) (below-or-not n e)
