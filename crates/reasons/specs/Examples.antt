@@ -25,7 +25,7 @@ use Rattle.paths.specs.Rules.{unwritten, allRules, ruleAt}
 use Rattle.rings.specs.Ring.{ring}
 use Rattle.rings.specs.Printed.{ring-none}
 use Rattle.rings.specs.Examples as rings
-use Rattle.reasons.specs.Text.{signed, eventLine, pointLine, ruleLine, ringText}
+use Rattle.reasons.specs.Text.{signedDecimal, atLine, pointLine, ruleLine, ringText}
 use Rattle.reasons.specs.Reasoning.{refusing, printing, afterReading, reasoning, reasoning-read, explaining-possible, explaining-ring}
 
 -- ---- names, as ASCII codes
@@ -130,11 +130,11 @@ eleven : decimal 11 ≡ 49 ∷ 49 ∷ []
 eleven = decimal-long 11 (omega arith) ∙ rw (decimal-short 1 (omega arith))
 
 says6 : ringText (ticket6 (pos 0)) (listBytes (later ∷ sooner ∷ [])) roster (1 ∷ 2 ∷ []) ≡ text6
-unfolding ringText pointLine eventLine ruleLine signed line nameAt nameIn listBytes entryBytes ruleAt allRules unwritten
+unfolding ringText pointLine atLine ruleLine signedDecimal line nameAt nameIn listBytes entryBytes ruleAt allRules unwritten
 says6 = rw (decimal-short 1 (omega arith), decimal-short 2 (omega arith), decimal-short 0 (omega arith))
 
 says7 : ringText (ticket7 (minus 11)) (listBytes (last ∷ [])) roster (1 ∷ 3 ∷ []) ≡ text7
-unfolding ringText pointLine eventLine ruleLine signed line nameAt nameIn listBytes entryBytes ruleAt allRules unwritten
+unfolding ringText pointLine atLine ruleLine signedDecimal line nameAt nameIn listBytes entryBytes ruleAt allRules unwritten
 says7 = rw (decimal-short 1 (omega arith), decimal-short 3 (omega arith), ten, eleven)
 
 possible1 : T (consistent ticket1)

@@ -16,7 +16,7 @@ use Rattle.text.specs.Text.{digit, decimal, decimal-short, decimal-long, line}
 use Rattle.names.specs.Names.{letter, letters, wellFormed, nameAt}
 use Rattle.names.specs.Laws.{both, name-letters}
 use Rattle.paths.specs.Rules.{fromOf, boundOf}
-use Rattle.reasons.specs.Text.{signed, eventLine, pointLine, ruleLine, ringText}
+use Rattle.reasons.specs.Text.{signedDecimal, atLine, pointLine, ruleLine, ringText}
 
 -- ---- the reader
 
@@ -106,8 +106,8 @@ unfolding readSigned
 sign s = refl
 
 -- a bound is read as it is, up to the byte that ends its line
-read-signed : (c : ℤ) (s : List ℕ) → readSigned (signed c ++ 10 ∷ s) ≡ (c, s)
-unfolding signed
+read-signed : (c : ℤ) (s : List ℕ) → readSigned (signedDecimal c ++ 10 ∷ s) ≡ (c, s)
+unfolding signedDecimal
 read-signed (pos n) s = go (starts-within (suc n) n (omega arith))
   where
     go : (d : ℕ) × (ds : List ℕ) × (48 ≤ d) × (decimal n ≡ d ∷ ds) → readSigned (decimal n ++ 10 ∷ s) ≡ (pos n, s)
@@ -142,9 +142,9 @@ afterPoint k s = (readNumber 0 (drop 3 s) .0, readSigned (readNumber 0 (drop 3 s
 read-line : (k x : ℕ) (c : ℤ) (more : List ℕ) → afterPoint k (ruleLine x c ++ more) ≡ (x, c) ∷ readRules k more
 unfolding ruleLine line
 read-line k x c more =
-    let a : drop 3 (ruleLine x c ++ more) ≡ decimal x ++ 32 ∷ (signed c ++ 10 ∷ more) = simp append-assoc in
-    let n : readNumber 0 (drop 3 (ruleLine x c ++ more)) ≡ (x, signed c ++ 10 ∷ more) =
-    ap (readNumber 0) a ∙ read-decimal x (32 ∷ (signed c ++ 10 ∷ more)) ∙ ended x 32 (signed c ++ 10 ∷ more) (omega arith) in
+    let a : drop 3 (ruleLine x c ++ more) ≡ decimal x ++ 32 ∷ (signedDecimal c ++ 10 ∷ more) = simp append-assoc in
+    let n : readNumber 0 (drop 3 (ruleLine x c ++ more)) ≡ (x, signedDecimal c ++ 10 ∷ more) =
+    ap (readNumber 0) a ∙ read-decimal x (32 ∷ (signedDecimal c ++ 10 ∷ more)) ∙ ended x 32 (signedDecimal c ++ 10 ∷ more) (omega arith) in
     ap (λ (m : ℕ × List ℕ). (m .0, readSigned (m .1) .0) ∷ readRules k (readSigned (m .1) .1)) n
     ∙ ap (λ (m : ℤ × List ℕ). (x, m .0) ∷ readRules k (m .1)) (read-signed c more)
 
@@ -153,7 +153,7 @@ module _ (k : Ticket) (labels roster : List ℕ) where
   at-line p = pointLine (k .owners) labels roster p
 
   point-long : (p : ℕ) → 1 ≤ length (at-line p)
-  unfolding pointLine eventLine line
+  unfolding pointLine atLine line
   point-long zero = omega arith
   point-long (suc i) = omega arith
 
@@ -166,7 +166,7 @@ module _ (k : Ticket) (labels roster : List ℕ) where
   -- what is passed over: a point line
   module _ (labelled : (i : ℕ) → letters (nameAt labels i) ≡ true) (known : (i : ℕ) → letters (nameAt roster i) ≡ true) where
     skip-point : (p : ℕ) (more : List ℕ) → skipLine (at-line p ++ more) ≡ more
-    unfolding pointLine eventLine line skipLine
+    unfolding pointLine atLine line skipLine
     skip-point zero more = refl
     skip-point (suc i) more =
         let a = nameAt labels i in
@@ -174,7 +174,7 @@ module _ (k : Ticket) (labels roster : List ℕ) where
         simp append-assoc (letters-within a (labelled i) (32 ∷ (b ++ 10 ∷ more)) ∙ letters-within b (known (getD (k .owners) i 0)) (10 ∷ more))
 
     read-head : (n p : ℕ) (more : List ℕ) → readRules (suc n) (at-line p ++ more) ≡ afterPoint n (skipLine (at-line p ++ more))
-    unfolding readRules pointLine eventLine line
+    unfolding readRules pointLine atLine line
     read-head n zero more = refl
     read-head n (suc i) more = refl
 

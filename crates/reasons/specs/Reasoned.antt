@@ -39,11 +39,11 @@ abbrev pub Holds : List ℕ → Ticket → Type 0
 Holds ticket k = wholly readTicket ticket ≡ got k []
 
 -- x is the number of the first cause to refuse: 10, then 1 to 8 as the ticket is read, then 16, then 17
-pub data Refused (ticket labels roster out : List ℕ) (x : ℕ) : Type 0 where
-  short : x ≡ 10 → length out < 2200 → Refused ticket labels roster out x
-  unread : (c : Cause) → x ≡ number c → 2200 ≤ length out → wholly readTicket ticket ≡ refused c → Refused ticket labels roster out x
-  unlisted : (k : Ticket) → x ≡ 16 → 2200 ≤ length out → Holds ticket k → ¬ Listed k labels roster → Refused ticket labels roster out x
-  possible : (k : Ticket) → x ≡ 17 → 2200 ≤ length out → Holds ticket k → Listed k labels roster → (ts : List ℕ) → Schedule k ts → Refused ticket labels roster out x
+pub data Unexplained (ticket labels roster out : List ℕ) (x : ℕ) : Type 0 where
+  short : x ≡ 10 → length out < 2200 → Unexplained ticket labels roster out x
+  unread : (c : Cause) → x ≡ number c → 2200 ≤ length out → wholly readTicket ticket ≡ refused c → Unexplained ticket labels roster out x
+  unlisted : (k : Ticket) → x ≡ 16 → 2200 ≤ length out → Holds ticket k → ¬ Listed k labels roster → Unexplained ticket labels roster out x
+  possible : (k : Ticket) → x ≡ 17 → 2200 ≤ length out → Holds ticket k → Listed k labels roster → (ts : List ℕ) → Schedule k ts → Unexplained ticket labels roster out x
 
 -- the ticket k has no schedule, and the ring of rules that 02 asks for stands at the start of the output, with nothing else written
 pub record Explained (ticket labels roster out : List ℕ) (o : Outcome) (k : Ticket) (rules : List ℕ) : Type 0 where
@@ -99,7 +99,7 @@ module _ (ticket labels roster out : List ℕ) where
       answer-ring : ¬ T (consistent k) → answer ≡ printing (ringText k labels roster (ring k)) out
       answer-ring n = explains ∙ explaining-ring k labels roster out (l .labelled) (l .known) (T-false (consistent k) (not-T (consistent k) n))
 
-  refused-is : (x : ℕ) → Refused ticket labels roster out x → (answer ≡ refusing x out) × (x ≢ 0)
+  refused-is : (x : ℕ) → Unexplained ticket labels roster out x → (answer ≡ refusing x out) × (x ≢ 0)
   refused-is x (short e l) = (reasoning-short ticket labels roster out l ∙ ap (λ r. refusing r out) (sym e), λ z. omega (arith, z))
   refused-is x (unread c e l q) = (
     reasoning-read ticket labels roster out l ∙ ap (afterReading labels roster out) q ∙ ap (λ r. refusing r out) (sym e),
@@ -116,7 +116,7 @@ module _ (ticket labels roster out : List ℕ) where
     none : ¬ T (consistent k)
 
   abbrev Decision : Type 0
-  Decision = ((x : ℕ) × Refused ticket labels roster out x) ⊎ ((k : Ticket) × Unrefused k)
+  Decision = ((x : ℕ) × Unexplained ticket labels roster out x) ⊎ ((k : Ticket) × Unrefused k)
 
   decide : Decision
   decide = ⊎-elim (λ (l : length out < 2200). inl (10, short refl l)) (λ (l : 2200 ≤ length out). read l (answered readTicket ticket)) (below-or-not (length out) 2200)
@@ -142,7 +142,7 @@ module _ (ticket labels roster out : List ℕ) where
   -- ---- the theorems
 
   -- the number is x and not 0 exactly where x is the number of the first cause that applies
-  pub reason-refusal : (x : ℕ) → Refused ticket labels roster out x ↔ ((answer .number ≡ x) × (x ≢ 0))
+  pub reason-refusal : (x : ℕ) → Unexplained ticket labels roster out x ↔ ((answer .number ≡ x) × (x ≢ 0))
   reason-refusal x = (
     λ f.
         let r = refused-is x f in
@@ -150,8 +150,8 @@ module _ (ticket labels roster out : List ℕ) where
     λ q. by q decide,
   )
     where
-      by : (answer .number ≡ x) × (x ≢ 0) → Decision → Refused ticket labels roster out x
-      by q (inl r) = subst (Refused ticket labels roster out) (sym (ap (λ (o : Outcome). o .number) (refused-is (r .0) (r .1) .0)) ∙ q .0) (r .1)
+      by : (answer .number ≡ x) × (x ≢ 0) → Decision → Unexplained ticket labels roster out x
+      by q (inl r) = subst (Unexplained ticket labels roster out) (sym (ap (λ (o : Outcome). o .number) (refused-is (r .0) (r .1) .0)) ∙ q .0) (r .1)
       by q (inr u) = absurd (q .1 (sym (q .0) ∙ ap (λ (o : Outcome). o .number) (unrefused-is (u .0) (u .1))))
 
   -- a refusal returns length 0, and leaves the output as it was
@@ -164,7 +164,7 @@ module _ (ticket labels roster out : List ℕ) where
   pub reason-not-nine : answer .number ≢ 9
   reason-not-nine e = by (reason-refusal 9 .1 (e, λ z. omega (arith, z)))
     where
-      by : Refused ticket labels roster out 9 → ⊥
+      by : Unexplained ticket labels roster out 9 → ⊥
       by (short q l) = omega (arith, q)
       by (unread c q l r) = number-not-nine c (sym q)
       by (unlisted k q l h n) = omega (arith, q)

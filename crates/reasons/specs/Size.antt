@@ -17,18 +17,18 @@ use Rattle.names.specs.Laws.{name-short}
 use Rattle.paths.specs.Rules.{fromOf, boundOf, Number}
 use Rattle.rings.specs.Printed.{size-valid}
 use Rattle.rings.specs.Costs.{bound-below, bound-above}
-use Rattle.reasons.specs.Text.{signed, eventLine, pointLine, ruleLine, ringText}
+use Rattle.reasons.specs.Text.{signedDecimal, atLine, pointLine, ruleLine, ringText}
 
 -- ---- the lines
 
 pub point-size : (owners labels roster : List ℕ) (n : ℕ) → wellFormed labels n ≡ true → wellFormed roster 5 ≡ true
     → (p : ℕ) → length (pointLine owners labels roster p) ≤ 37
-unfolding pointLine eventLine line
+unfolding pointLine atLine line
 point-size owners labels roster n l r zero = omega arith
 point-size owners labels roster n l r (suc i) = simp length-append (omega (arith, name-short labels n l i, name-short roster 5 r (getD owners i 0)))
 
-signed-size : (c : ℤ) → natAbs c ≤ 1000000 → length (signed c) ≤ 8
-unfolding signed
+signed-size : (c : ℤ) → natAbs c ≤ 1000000 → length (signedDecimal c) ≤ 8
+unfolding signedDecimal
 signed-size (pos n) h = omega (arith, decimal-length 7 n (omega arith) (omega arith))
 signed-size (negsuc n) h = omega (arith, decimal-length 7 (suc n) (omega arith) (omega arith))
 

@@ -11,29 +11,29 @@ use lib.IntN.{ℤ, pos, negsuc, natAbs}
 use lib.Signed.{mag, leZ}
 use lib.ListN.{length, getD, take, drop}
 use lib.Seq.{drop-cons}
-use Rattle.names.specs.Names.{nameAt, Holds}
-use Rattle.names.specs.Laws.{holds}
+use Rattle.names.specs.Names.{nameAt, HasName}
+use Rattle.names.specs.Laws.{has-name}
 use Rattle.text.specs.Text.{decimal, line}
-use Rattle.reasons.specs.Text.{signed, eventLine, pointLine, ruleLine}
+use Rattle.reasons.specs.Text.{signedDecimal, atLine, pointLine, ruleLine}
 use Rattle.reasons.specs.Size.{point-size, rule-size}
-use Rattle.ring_text.specs.Sheet.{Sheet, fromIn, boundIn, startLine, ruleText, pointText, Ready, point-known, bound-known}
+use Rattle.ring_text.specs.Sheet.{Sheet, fromIn, boundIn, startLine, ruleText, pointText, Writable, point-known, bound-known}
 
 -- a bound with its sign: as it is, or '-' and what is taken from -1, plus 1
-pub signed-low : (z : ℤ) → leZ (pos 0) z ≡ true → decimal (natAbs z) ≡ signed z
-unfolding signed
+pub signed-low : (z : ℤ) → leZ (pos 0) z ≡ true → decimal (natAbs z) ≡ signedDecimal z
+unfolding signedDecimal
 signed-low (pos n) e = refl
 signed-low (negsuc n) e = absurd (let x : _≡_ {A = ℕ} 0 1 = cc in omega arith)
 
-pub signed-high : (z : ℤ) → leZ (pos 0) z ≡ false → 45 ∷ decimal (mag z + 1) ≡ signed z
-unfolding signed
+pub signed-high : (z : ℤ) → leZ (pos 0) z ≡ false → 45 ∷ decimal (mag z + 1) ≡ signedDecimal z
+unfolding signedDecimal
 signed-high (pos n) e = absurd (let x : _≡_ {A = ℕ} 0 1 = cc (le-leb 0 n (omega arith)) in omega arith)
 signed-high (negsuc n) e = rw add-one
 
 -- the point p has a label and a device, if it is an event
 pub record Pointed (owners labels roster : List ℕ) (p : ℕ) : Type 0 where
   pub few : p ≤ 40
-  pub label : 1 ≤ p → Holds labels (p - 1)
-  pub device : 1 ≤ p → Holds roster (getD owners (p - 1) 0)
+  pub label : 1 ≤ p → HasName labels (p - 1)
+  pub device : 1 ≤ p → HasName roster (getD owners (p - 1) 0)
 
 -- the lines as the code puts them
 module _ (owners labels roster : List ℕ) (p : ℕ) where
@@ -41,17 +41,17 @@ module _ (owners labels roster : List ℕ) (p : ℕ) where
   unfolding pointLine line
   line-start e = rw e
 
-  pub line-event : 1 ≤ p → pointLine owners labels roster p ≡ eventLine (nameAt labels (p - 1)) (nameAt roster (getD owners (p - 1) 0))
+  pub line-event : 1 ≤ p → pointLine owners labels roster p ≡ atLine (nameAt labels (p - 1)) (nameAt roster (getD owners (p - 1) 0))
   unfolding pointLine
   line-event h =
       let e : p ≡ suc (p - 1) = omega arith in
       ap (pointLine owners labels roster) e
 
-pub line-names : (label device : List ℕ) → eventLine label device ≡ 97 ∷ 116 ∷ 32 ∷ (label ++ 32 ∷ (device ++ 10 ∷ []))
-unfolding eventLine line
+pub line-names : (label device : List ℕ) → atLine label device ≡ 97 ∷ 116 ∷ 32 ∷ (label ++ 32 ∷ (device ++ 10 ∷ []))
+unfolding atLine line
 line-names label device = refl
 
-pub line-rule : (x : ℕ) (c : ℤ) → ruleLine x c ≡ 98 ∷ 121 ∷ 32 ∷ (decimal x ++ 32 ∷ (signed c ++ 10 ∷ []))
+pub line-rule : (x : ℕ) (c : ℤ) → ruleLine x c ≡ 98 ∷ 121 ∷ 32 ∷ (decimal x ++ 32 ∷ (signedDecimal c ++ 10 ∷ []))
 unfolding ruleLine line
 line-rule x c = refl
 
@@ -77,8 +77,8 @@ ring-whole ring left h = ring-part ring 0 left (omega arith)
 -- ---- a place in a ring
 
 -- the same sheet with the rules after the first
-ready-rest : {s : Sheet} {x : ℕ} {xs : List ℕ} → Ready s (x ∷ xs) → Ready s xs
-ready-rest r =
+writable-rest : {s : Sheet} {x : ℕ} {xs : List ℕ} → Writable s (x ∷ xs) → Writable s xs
+writable-rest r =
     record {
       events = r .events;
       events-limit = r .events-limit;
@@ -107,12 +107,12 @@ module _ (s : Sheet) (ring : List ℕ) (i left : ℕ) (l : 1 ≤ left) where
   unfolding pointText
   text-next = rw place-cons
 
-  module _ (r : Ready s (ringFrom ring i left)) where
-    here : Ready s (getD ring i 0 ∷ ringFrom ring (i + 1) (left - 1))
+  module _ (r : Writable s (ringFrom ring i left)) where
+    here : Writable s (getD ring i 0 ∷ ringFrom ring (i + 1) (left - 1))
     here = rw place-cons at r
 
-    pub next-ready : Ready s (ringFrom ring (i + 1) (left - 1))
-    next-ready = ready-rest here
+    pub next-writable : Writable s (ringFrom ring (i + 1) (left - 1))
+    next-writable = writable-rest here
 
     pub number-least : 1 ≤ getD ring i 0
     number-least = here .numbers .0 .0
@@ -136,6 +136,6 @@ module _ (s : Sheet) (ring : List ℕ) (i left : ℕ) (l : 1 ≤ left) where
         let k = point-known s (x ∷ ringFrom ring (i + 1) (left - 1)) h x (h .numbers .0 .0) (h .numbers .0 .1) in
         record {
           few = omega (arith, k, h .events-limit);
-          label = λ (g : 1 ≤ fromIn s x). holds (s .labels) (h .events) (fromIn s x - 1) (h .labels-listed) (omega (arith, k));
-          device = λ (g : 1 ≤ fromIn s x). holds (s .roster) 5 (getD (s .owners) (fromIn s x - 1) 0) (h .roster-listed) (omega (arith, h .owners-known (fromIn s x - 1) (omega (arith, k))));
+          label = λ (g : 1 ≤ fromIn s x). has-name (s .labels) (h .events) (fromIn s x - 1) (h .labels-listed) (omega (arith, k));
+          device = λ (g : 1 ≤ fromIn s x). has-name (s .roster) 5 (getD (s .owners) (fromIn s x - 1) 0) (h .roster-listed) (omega (arith, h .owners-known (fromIn s x - 1) (omega (arith, k))));
         }

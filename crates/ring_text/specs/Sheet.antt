@@ -22,7 +22,7 @@ use Rattle.paths.specs.Rules.{fromOf, boundOf, Number}
 use Rattle.paths.specs.Walks.{rule-points}
 use Rattle.paths.specs.Structs.{in-events, in-rules, written-in, back-in, out-in}
 use Rattle.rings.specs.Printed.{valid-points}
-use Rattle.reasons.specs.Text.{eventLine, pointLine, ruleLine, ringText}
+use Rattle.reasons.specs.Text.{atLine, pointLine, ruleLine, ringText}
 use Rattle.reasons.specs.Size.{bound-small}
 
 -- ---- the definitions
@@ -72,7 +72,7 @@ pointText s [] = []
 pointText s (x ∷ xs) = startLine s x ++ ruleText s x (pointText s xs)
 
 -- what the writers ask of n events: points and bounds of a ticket that was read, lists of names as they must be, and numbers of rules that there are
-pub record Ready (s : Sheet) (ring : List ℕ) : Type 0 where
+pub record Writable (s : Sheet) (ring : List ℕ) : Type 0 where
   pub events : ℕ
   pub events-limit : events ≤ 40
   pub horizon-limit : s .horizon ≤ 1000000
@@ -119,7 +119,7 @@ by-rule X m x written back start = ⊎-elim
     written
     (below-or-not m x)
 
-module _ (s : Sheet) (ring : List ℕ) (r : Ready s ring) (x : ℕ) (l : 1 ≤ x) (h : x ≤ s .rules + 2 * r .events) where
+module _ (s : Sheet) (ring : List ℕ) (r : Writable s ring) (x : ℕ) (l : 1 ≤ x) (h : x ≤ s .rules + 2 * r .events) where
   -- a rule goes from a point that there is
   pub point-known : fromIn s x ≤ r .events
   point-known =
@@ -158,7 +158,7 @@ module _ (t : Ticket) where
     same-line : (p : ℕ) → p ≤ events (content t) → pointLine (t .owners) labels roster p ≡ pointLine (content t .owners) labels roster p
     unfolding pointLine
     same-line zero l = refl
-    same-line (suc i) l = ap (λ o. eventLine (nameAt labels i) (nameAt roster o)) (sym (getD-firsts (t .events) (ownerIn t) 0 i (omega (arith, in-events t))))
+    same-line (suc i) l = ap (λ o. atLine (nameAt labels i) (nameAt roster o)) (sym (getD-firsts (t .events) (ownerIn t) 0 i (omega (arith, in-events t))))
 
     -- the text by a struct's sheet is that of the ticket which the struct holds
     pub sheet-text : (ring : List ℕ) → All (Number (content t)) ring → pointText (sheetIn t labels roster) ring ≡ ringText (content t) labels roster ring
@@ -171,9 +171,9 @@ module _ (t : Ticket) where
         ap₂ _++_ line (ap₂ _++_ (ap (ruleLine x) (bound-same x (h .0 .0) top)) (sheet-text xs (h .1)))
 
     -- and such a sheet is ready
-    pub sheet-ready : wellFormed labels (events (content t)) ≡ true → wellFormed roster 5 ≡ true → (ring : List ℕ) → All (Number (content t)) ring
-        → Ready (sheetIn t labels roster) ring
-    sheet-ready l r ring n =
+    pub sheet-writable : wellFormed labels (events (content t)) ≡ true → wellFormed roster 5 ≡ true → (ring : List ℕ) → All (Number (content t)) ring
+        → Writable (sheetIn t labels roster) ring
+    sheet-writable l r ring n =
         record {
           events = events (content t);
           events-limit = v .events-limit;

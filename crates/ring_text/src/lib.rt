@@ -1,19 +1,19 @@
 // Writes the text of a ring of rules, line by line: the point-line writer and the rule-line writer call each other until no rule is left.
 // Rests on `ticket` for the struct, on `text` for numbers and words, and on `names` for the names. What the text is stands in `reasons` (specs/Text).
 ghost use mathlib.Core.Path.{_≡_};
+ghost use mathlib.Core.Bool.{true};
 ghost use Prim.Native.Nat.{_+_, _*_, _≤_};
 ghost use mathlib.Core.List.{[], _∷_, _++_};
 ghost use lib.ListN.{length, take};
-ghost use Rattle.text.specs.Stores.{Puts};
-ghost use mathlib.Core.Bool.{true};
 ghost use Rattle.temporal.specs.Lists.{All};
 ghost use Rattle.temporal.specs.Ticket.{events};
 ghost use Rattle.temporal.specs.Run.{Valid};
 ghost use Rattle.ticket.specs.Writing.{content};
+ghost use Rattle.text.specs.Stores.{Puts};
 ghost use Rattle.names.specs.Names.{wellFormed};
 ghost use Rattle.paths.specs.Rules.{Number};
-ghost use Rattle.reasons.specs.Text.{signed, eventLine, pointLine, ruleLine, ringText};
-ghost use Rattle.ring_text.specs.Sheet.{sheet, fromAt, boundAt, pointText, Ready};
+ghost use Rattle.reasons.specs.Text.{signedDecimal, atLine, pointLine, ruleLine, ringText};
+ghost use Rattle.ring_text.specs.Sheet.{sheet, fromAt, boundAt, pointText, Writable};
 ghost use Rattle.ring_text.specs.Lines.{Pointed, ringFrom, restText};
 use ticket::Ticket;
 
@@ -50,7 +50,7 @@ fn bound_of(m: usize, horizon: u32, bound: &[i32; 256], x: u32) -> i32
 // c with its sign, and the byte that ends its line.
 fn put_signed(out: &mut [u8], at: usize, c: i32) -> usize
     requires { ⌜ at + 12 ≤ length (now out) ⌝ }
-    ensures { λ r. ⌜ Puts (signed c ++ 10 ∷ []) (now (out .entry)) (now (out .exit)) at r ⌝ }
+    ensures { λ r. ⌜ Puts (signedDecimal c ++ 10 ∷ []) (now (out .entry)) (now (out .exit)) at r ⌝ }
 {
     if 0 <= c {
         return text::put_part(out, at, c as u32, b'\n');
@@ -63,7 +63,7 @@ fn put_signed(out: &mut [u8], at: usize, c: i32) -> usize
 // The line of an event with these names.
 fn put_event<'a>(out: &mut [u8], at: usize, label: &'a [u8], device: &'a [u8]) -> usize
     requires { ⌜ at + 5 + length (now label) + length (now device) ≤ length (now out) ⌝ }
-    ensures { λ r. ⌜ Puts (eventLine (now (label .entry)) (now (device .entry))) (now (out .entry)) (now (out .exit)) at r ⌝ }
+    ensures { λ r. ⌜ Puts (atLine (now (label .entry)) (now (device .entry))) (now (out .entry)) (now (out .exit)) at r ⌝ }
 {
     let a = text::put_word(out, at, b"at ");
     let b = text::put_word(out, a, label);
@@ -121,7 +121,7 @@ fn point_line<'a>(
     roster: &'a [u8],
 ) -> usize
     requires { ⌜ (i + left ≤ 41) × (at + 53 * left + 11 ≤ length (now out)) ⌝ }
-    requires { ⌜ Ready (sheet horizon m (now owners) (now from) (now bound) (now labels) (now roster))
+    requires { ⌜ Writable (sheet horizon m (now owners) (now from) (now bound) (now labels) (now roster))
         (ringFrom (now ring) i left) ⌝ }
     ensures { λ r. ⌜ Puts (pointText (sheet horizon m (now (owners .entry)) (now (from .entry)) (now (bound .entry))
         (now (labels .entry)) (now (roster .entry))) (ringFrom (now (ring .entry)) i left)) (now (out .entry)) (now (out .exit)) at r ⌝ }
@@ -163,7 +163,7 @@ fn rule_line<'a>(
     roster: &'a [u8],
 ) -> usize
     requires { ⌜ (1 ≤ left) × (i + left ≤ 41) × (at + 53 * left ≤ length (now out) + 26) ⌝ }
-    requires { ⌜ Ready (sheet horizon m (now owners) (now from) (now bound) (now labels) (now roster))
+    requires { ⌜ Writable (sheet horizon m (now owners) (now from) (now bound) (now labels) (now roster))
         (ringFrom (now ring) i left) ⌝ }
     ensures { λ r. ⌜ Puts (restText (sheet horizon m (now (owners .entry)) (now (from .entry)) (now (bound .entry))
         (now (labels .entry)) (now (roster .entry))) (now (ring .entry)) i left) (now (out .entry)) (now (out .exit)) at r ⌝ }

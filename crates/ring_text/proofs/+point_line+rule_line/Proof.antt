@@ -12,7 +12,7 @@ use mir.ValLaws.{toZ-ofZ}
 use Rattle.text.specs.Stores.{Puts, puts-none, puts-then, puts-length}
 use Rattle.reasons.specs.Text.{ruleLine}
 use Rattle.ring_text.specs.Sheet.{Sheet, sheet, startLine, boundIn}
-use Rattle.ring_text.specs.Lines.{restText, text-done, text-next, next-ready, number-least, rule-short, start-short, start-pointed}
+use Rattle.ring_text.specs.Lines.{restText, text-done, text-next, next-writable, number-least, rule-short, start-short, start-pointed}
 use Rattle.ring_text.proofs.point_line.Reads as point-line
 use Rattle.ring_text.proofs.point_line.Kinds as point-line-kinds
 use Rattle.ring_text.proofs.+point_line+rule_line.Lts-point_line as point-line-lts
@@ -140,7 +140,7 @@ module _ (t : ℕ) where
       let a = s .args in
       let h = rule-short (rule-sheet s) (a .ring .now) (a .i) (a .left) l r in (
         omega (arith, s .pre .0, l),
-        ((omega (arith, s .pre .1 .0 .1, l), omega (arith, p .end, puts-length p, h, l, s .pre .1 .0 .2)), next-ready (rule-sheet s) (a .ring .now) (a .i) (a .left) l r),
+        ((omega (arith, s .pre .1 .0 .1, l), omega (arith, p .end, puts-length p, h, l, s .pre .1 .0 .2)), next-writable (rule-sheet s) (a .ring .now) (a .i) (a .left) l r),
       )
 
   rule-line-same-length : rule-line-lts.Need-same-length (rule-line-calls t) (rule-line-at t) rule-line.Post

@@ -23,32 +23,32 @@ name-requires-2 : tie.Need-name-requires-2
 name-requires-2 c κs = rw (c .before .wide .ensures .0) (c .before .before .before .before .before .before .before .pre .1 .device (omega arith))
 
 -- the names are those of the lists, and short
-label : (c : tie.After-name2) → c .before .name .result .now ≡ nameAt (c .before .before .before .before .before .before .before .before .args .labels .now) (c .before .before .before .before .before .before .before .before .args .p - 1)
+abbrev entry : tie.After-name2 → tie.Start
+entry c = c .before .before .before .before .before .before .before .before
+
+label : (c : tie.After-name2) → c .before .name .result .now ≡ nameAt (entry c .args .labels .now) (entry c .args .p - 1)
 label c = c .before .name .ensures .name
 
-device : (c : tie.After-name2)
-    → c .name2 .result .now ≡ nameAt (c .before .before .before .before .before .before .before .before .args .roster .now) (getD (c .before .before .before .before .before .before .before .before .args .owners .now) (c .before .before .before .before .before .before .before .before .args .p - 1) 0)
+device : (c : tie.After-name2) → c .name2 .result .now ≡ nameAt (entry c .args .roster .now) (getD (entry c .args .owners .now) (entry c .args .p - 1) 0)
 device c = rw (c .before .before .wide .ensures .0) at (c .name2 .ensures .name)
 
 label-short : (c : tie.After-name2) → length (c .before .name .result .now) ≤ 16
 label-short c =
-    let s = c .before .before .before .before .before .before .before .before in
-    let l = s .args .labels .now in
-    rw (label c) (name-short l (count l) (s .pre .1 .label (omega arith) .whole) _)
+    let l = entry c .args .labels .now in
+    rw (label c) (name-short l (count l) (entry c .pre .1 .label (omega arith) .whole) _)
 
 device-short : (c : tie.After-name2) → length (c .name2 .result .now) ≤ 16
 device-short c =
-    let s = c .before .before .before .before .before .before .before .before in
-    let r = s .args .roster .now in
-    rw (device c) (name-short r (count r) (s .pre .1 .device (omega arith) .whole) _)
+    let r = entry c .args .roster .now in
+    rw (device c) (name-short r (count r) (entry c .pre .1 .device (omega arith) .whole) _)
 
 put-event-requires : tie.Need-put-event-requires
-put-event-requires c κs = omega (arith, label-short (c .before), device-short (c .before), c .before .before .before .before .before .before .before .before .before .pre .0)
+put-event-requires c κs = omega (arith, label-short (c .before), device-short (c .before), entry (c .before) .pre .0)
 
 returns-2 : tie.Need-returns-2
 returns-2 c =
     let n = c .before .before .before .before in
-    let a = n .before .before .before .before .before .before .before .before .args in
+    let a = entry n .args in
     let e = line-event (a .owners .now) (a .labels .now) (a .roster .now) (a .p) (omega (arith, n .before .before .before .before .if1 .left)) in
     rw (e, ← (label n), ← (device n)) (c .before .before .put-event .ensures)
 

@@ -4,7 +4,7 @@ use native.Mathlib.Omega.{arith}
 use borrow.Author.Needs.{needs}
 use lib.ListN.{take}
 use Rattle.text.specs.Stores.{puts-as}
-use Rattle.ring_text.specs.Sheet.{sheetIn, pointText, sheet-text, sheet-ready}
+use Rattle.ring_text.specs.Sheet.{sheetIn, pointText, sheet-text, sheet-writable}
 use Rattle.ring_text.specs.Lines.{ringFrom, ring-whole}
 use Rattle.ring_text.proofs.put_ring.Statement.{statement}
 use Rattle.ring_text.proofs.put_ring.Tie as tie
@@ -17,15 +17,18 @@ point-line-requires : tie.Need-point-line-requires
 point-line-requires c κs =
     let entry : tie.Start = search needs in
     let a = entry .args in
-    let p = entry .pre in
-    ((omega arith, omega arith), rw (whole entry) (sheet-ready (a .t) (p .0) (a .labels .now) (a .roster .now) (p .1 .1 .0 .0) (p .1 .1 .0 .1) (take (a .count) (a .ring .now)) (p .1 .0 .2)))
+    let p = entry .pre in (
+      (omega arith, omega arith),
+      rw (whole entry)
+          (sheet-writable (a .t) (p .0) (a .labels .now) (a .roster .now) (p .1 .1 .0 .0) (p .1 .1 .0 .1) (take (a .count) (a .ring .now)) (p .1 .0 .2)),
+    )
 
 returns : tie.Need-returns
 returns c =
     let entry : tie.Start = search needs in
     let a = entry .args in
-    let p = entry .pre in
-    puts-as (ap (pointText (sheetIn (a .t) (a .labels .now) (a .roster .now))) (whole entry) ∙ sheet-text (a .t) (p .0) (a .labels .now) (a .roster .now) (take (a .count) (a .ring .now)) (p .1 .0 .2)) (c .before .before .point-line .ensures)
+    let same = sheet-text (a .t) (entry .pre .0) (a .labels .now) (a .roster .now) (take (a .count) (a .ring .now)) (entry .pre .1 .0 .2) in
+    puts-as (ap (pointText (sheetIn (a .t) (a .labels .now) (a .roster .now))) (whole entry) ∙ same) (c .before .before .point-line .ensures)
 
 pub put-ring-spec : {M : Type 1} → statement M
 put-ring-spec = tie.close (tie.spec point-line-requires (λ c. search needs) returns)
