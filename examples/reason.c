@@ -1,6 +1,7 @@
 /* Why no times keep the rules of a ticket: prints the ring of rules that beyunlak_reason finds, or "refused" and the
  * number. The labels of the events and the roster of the devices are files, lists of names; the ticket is a file too,
- * or comes from standard input. tools/ticket makes all three from text: encode the ticket and the labels, list the roster.
+ * or comes from standard input. tools/ticket makes all three from text: `encode` the ticket and its labels, `list` the
+ * roster.
  *
  *     cc -std=c99 -Iinclude examples/reason.c target/staticlib/libbeyunlak.a -o reason
  *     ./reason LABELS ROSTER [TICKET]
