@@ -5,12 +5,11 @@ use mathlib.Core.Bool.{Bool, false}
 use mathlib.Core.List.{List}
 use Prim.Native.Nat.{ℕ, _≤_, _<_}
 use native.Mathlib.Omega.{arith}
-use lib.Dec.{eqb, leb→le}
-use lib.IntN.{ℤ, pos, negsuc}
-use lib.Signed.{_≤ℤ_}
+use lib.Dec.{eqb}
+use lib.IntN.{pos}
 use lib.ListN.{length, getD, set}
 use Rattle.temporal.specs.Lists.{All, All-below, tab-set}
-use Rattle.temporal.specs.Bound.{above, below}
+use Rattle.temporal.specs.Bound.{above, below, above-most, below-most}
 use Rattle.temporal.specs.Ticket as temporal
 use Rattle.temporal.specs.Ticket.{Rule, events, Window, origin}
 use Rattle.temporal.specs.Ends.{Lies}
@@ -80,16 +79,6 @@ pub record Given (t : Ticket) : Type 0 where
   pub deep : (j : ℕ) → j < t .rules → below (getD (t .bound) j (pos 0)) ≤ 1000000
   pub high : (j : ℕ) → j < t .rules → above (getD (t .bound) j (pos 0)) ≤ 1000000
 
-bound-above : (z : ℤ) → z ≤ℤ pos 1000000 → above z ≤ 1000000
-unfolding above
-bound-above (pos n) h = leb→le n 1000000 (h .le)
-bound-above (negsuc n) h = omega arith
-
-bound-below : (z : ℤ) → negsuc 999999 ≤ℤ z → below z ≤ 1000000
-unfolding below
-bound-below (pos n) h = omega arith
-bound-below (negsuc n) h = omega (arith, leb→le n 999999 (h .le))
-
 pub valid-given : (t : Ticket) → Valid (content t) → Given t
 valid-given t ok = record {
   top = ok .horizon-limit;
@@ -97,8 +86,8 @@ valid-given t ok = record {
   most = rw (in-rules t) at (ok .rules-limit);
   from-point = λ j l. valid j l .from-point;
   to-point = λ j l. valid j l .to-point;
-  deep = λ j l. bound-below (getD (t .bound) j (pos 0)) (valid j l .at-least);
-  high = λ j l. bound-above (getD (t .bound) j (pos 0)) (valid j l .at-most);
+  deep = λ j l. below-most (getD (t .bound) j (pos 0)) (valid j l .at-least);
+  high = λ j l. above-most (getD (t .bound) j (pos 0)) (valid j l .at-most);
 }
   where
     valid : (j : ℕ) → j < t .rules → ValidRule (t .events) (ruleIn t j)

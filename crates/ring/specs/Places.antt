@@ -17,12 +17,12 @@ use Rattle.temporal.specs.Ticket.{Rule, events}
 use Rattle.temporal.specs.Run.{Valid}
 use Rattle.ticket.specs.Writing.{ruleIn, content}
 use Rattle.ticket.specs.declared.Ticket.{Ticket}
+use Rattle.demands.specs.Cost.{bound-fits}
 use Rattle.paths.specs.Rules.{back, out, size, ruleAt, fromOf, toOf, boundOf}
 use Rattle.paths.specs.Walks.{rule-points}
 use Rattle.paths.specs.Structs.{in-events, in-rules, written-in, back-in, out-in}
 use Rattle.rings.specs.Printed.{valid-points}
 use Rattle.rings.specs.Costs.{cost, bound-below, bound-above, cost-back, cost-out, cost-most}
-use Rattle.ring.specs.Cost.{bound-fits}
 
 -- ---- what stands in the arrays
 

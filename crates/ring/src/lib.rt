@@ -1,12 +1,11 @@
 // The ring of rules that says why a ticket has no schedule: found from the least costs of walks, root by root, and then rule by rule.
-// Rests on `ticket` for the struct, and on `rings`, which says what the ring is and why the search finds it.
+// Rests on `ticket` for the struct, on `demands` for the cost of a bound, and on `rings`, which says what the ring is and why the search finds it.
 ghost use mathlib.Core.Path.{_≡_};
 ghost use mathlib.Core.Bool.{_&&_};
 ghost use mathlib.Core.List.{[]};
 ghost use Prim.Native.Nat.{ℕ, _+_, _*_, _-_, _<_, _≤_, min};
 ghost use lib.Dec.{T, ltb, eqb};
 ghost use lib.ListN.{length, getD, set};
-ghost use Rattle.temporal.specs.Bound.{above, below, biased};
 ghost use Rattle.temporal.specs.Run.{Valid};
 ghost use Rattle.ticket.specs.Writing.{content};
 ghost use Rattle.ticket.specs.Stored.{pad};
@@ -16,11 +15,9 @@ ghost use Rattle.ring.specs.FirstOr.{FirstOr};
 ghost use Rattle.ring.specs.WalkTable.{WalkTable, cell, Ready, Round};
 ghost use Rattle.ring.specs.Answer.{printed};
 ghost use Rattle.ring.specs.Search.{opens, Begins, Joins, Follows, Answers};
+use network::BIAS;
 
-// A rule costs its bound plus BIAS, so nothing is negative.
-const BIAS: u32 = 1_000_000;
-
-// Stands for "no walk".
+// A rule costs its bound plus BIAS, so nothing is negative. This stands for "no walk".
 const TOP: u32 = 1_000_000_000;
 
 // The numbers of the ring's rules, with 0 in the places past them; count 0 where there is a schedule.
@@ -36,19 +33,6 @@ struct Start {
 }
 
 // ---- the rules, by their numbers: place e of the three arrays holds rule e. Place 0 is not used, and the last stands for "no rule"
-
-// The cost of a bound.
-fn cost_of(z: i32) -> u32
-    requires { ⌜ (above z ≤ 1000000) × (below z ≤ 1000000) ⌝ }
-    ensures { λ r. ⌜ r ≡ biased z ⌝ }
-{
-    if 0 <= z {
-        BIAS + (z as u32)
-    } else {
-        let k = -1 - z;
-        999_999 - (k as u32)
-    }
-}
 
 // Store rule e: from f to d, at cost c.
 fn put(
@@ -89,7 +73,7 @@ fn written(t: ticket::Ticket, from: &mut [usize; 338], to: &mut [usize; 338], co
             j + 1,
             ticket::wide(f),
             ticket::wide(d),
-            cost_of(b),
+            demands::cost(b),
         );
         j += 1;
     }

@@ -8,12 +8,10 @@ use mathlib.Core.Logic.{_↔_, _⊎_, inl, inr, ⊎-elim, _≢_}
 use Prim.Native.Nat.{ℕ, zero, suc, _+_, _*_, _-_, _≤_, _<_, min}
 use native.Mathlib.Decide.{ℕ-discrete}
 use native.Mathlib.Omega.{arith}
-use lib.Dec.{T, not-T, leb→le, eqb, eqb→eq, eqb-refl}
-use lib.IntN.{ℤ, pos, negsuc}
-use lib.Signed.{_≤ℤ_}
+use lib.Dec.{T, not-T, eqb, eqb→eq, eqb-refl}
 use lib.ListN.{length}
 use Rattle.temporal.specs.Lists.{All, All-map, T-true, T-false, below-or-not}
-use Rattle.temporal.specs.Bound.{above, below, biased}
+use Rattle.temporal.specs.Bound.{above, below, above-most, below-most, biased}
 use Rattle.temporal.specs.Ticket.{Rule, Ticket, events}
 use Rattle.temporal.specs.Run.{Valid, ValidRule}
 use Rattle.paths.specs.Rules.{back, out, size, ruleAt, fromOf, toOf, boundOf, Number, Walk}
@@ -170,28 +168,18 @@ cost-out k e h i q = ap (λ (r : Rule). biased (r .bound)) q ∙ plain
     plain : 1000000 + h - 0 ≡ 1000000 + h
     plain = omega arith
 
-below-valid : (c : ℤ) → negsuc 999999 ≤ℤ c → below c ≤ 1000000
-unfolding below
-below-valid (pos n) h = omega arith
-below-valid (negsuc n) h = omega (arith, leb→le n 999999 (h .le))
-
-above-valid : (c : ℤ) → c ≤ℤ pos 1000000 → above c ≤ 1000000
-unfolding above
-above-valid (pos n) h = leb→le n 1000000 (h .le)
-above-valid (negsuc n) h = omega arith
-
 module _ (k : Ticket) (v : Valid k) where
   -- the bound of every rule lies between -1,000,000 and 1,000,000
   pub bound-below : (e : ℕ) → below (boundOf k e) ≤ 1000000
   unfolding below
   bound-below e = rule-all (λ (r : Rule). below (r .bound) ≤ 1000000) k
-      (All-map (λ (r : Rule) (h : ValidRule (events k) r). below-valid (r .bound) (h .at-least)) (k .rules) (v .rules-valid))
+      (All-map (λ (r : Rule) (h : ValidRule (events k) r). below-most (r .bound) (h .at-least)) (k .rules) (v .rules-valid))
       (omega arith) (λ i a b. (omega arith, omega arith)) e
 
   pub bound-above : (e : ℕ) → above (boundOf k e) ≤ 1000000
   unfolding above
   bound-above e = rule-all (λ (r : Rule). above (r .bound) ≤ 1000000) k
-      (All-map (λ (r : Rule) (h : ValidRule (events k) r). above-valid (r .bound) (h .at-most)) (k .rules) (v .rules-valid))
+      (All-map (λ (r : Rule) (h : ValidRule (events k) r). above-most (r .bound) (h .at-most)) (k .rules) (v .rules-valid))
       (omega arith) (λ i a b. (omega arith, v .horizon-limit)) e
 
   pub cost-parts : (e : ℕ) → cost k e + below (boundOf k e) ≡ 1000000 + above (boundOf k e)
