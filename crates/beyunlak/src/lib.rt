@@ -1,5 +1,5 @@
-// The five functions that a host program in C calls: planning, the latest plan and commitment on numbers and byte slices, the table of distances, and the
-// reason why a ticket is impossible.
+// The six functions that a host program in C calls: planning, the latest plan and commitment on numbers and byte slices, the table of distances, that table
+// after some of its stops, and the reason why a ticket is impossible.
 // The first three hold the scratch that crate `plan` works in, so that number 10 says that the output is too short. Nobody sees it, so it is not cleared.
 ghost use mathlib.Core.Path.{_≡_};
 ghost use mathlib.Core.List.{map};
@@ -7,6 +7,7 @@ ghost use lib.ListN.{length, replicate};
 ghost use Rattle.runs.specs.Calls.{planning, planningLatest, committing};
 ghost use Rattle.temporal.specs.Table.{tableOf};
 ghost use Rattle.table.specs.Lent.{ruleOf};
+ghost use Rattle.stops.specs.After.{tableAfter};
 ghost use Rattle.reasons.specs.Reasoning.{reasoning};
 use ticket::RECORD_BYTES;
 
@@ -76,6 +77,15 @@ pub extern "C" fn beyunlak_table(
     ensures { λ r. ⌜ (r, now (out .exit)) ≡ tableOf horizon events (map ruleOf (now (rules .entry))) (now (out .entry)) ⌝ }
 {
     table::table(horizon, events, rules, out)
+}
+
+// The working table of a ticket after the first `stops` of its stops, row by row, at the start of `out`. The answer is 0, or the number of the first cause to
+// refuse.
+#[no_mangle]
+pub extern "C" fn beyunlak_table_after(ticket: &[u8], stops: u32, out: &mut [i32]) -> u32
+    ensures { λ r. ⌜ (r, now (out .exit)) ≡ tableAfter (now (ticket .entry)) stops (now (out .entry)) ⌝ }
+{
+    stops::table_after(ticket, stops, out)
 }
 
 // Why a ticket has no schedule: the text of a ring of rules, at the start of `out`, with the names of the two lists. The answer is 0, or the number of the

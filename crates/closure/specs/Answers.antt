@@ -3,24 +3,25 @@
 use Prim.Native.Nat.{ℕ, zero, suc, _+_, _*_, _-_, _/_, _%_, _≤_, _<_, min}
 use mathlib.Core.Path.{_≡_, sym, ap, ap₂, _∙_}
 use mathlib.Core.Bool.{Bool, true, false}
-use mathlib.Core.List.{List}
+use mathlib.Core.List.{List, _++_}
+use mathlib.Core.Logic.{_≢_}
 use native.Mathlib.Nat.{mod-lt, div-add-mod', div-lt-iff-lt-mul}
 use native.Mathlib.Omega.{arith}
+use lib.Dec.{T}
 use lib.IntN.{ℤ, pos}
 use lib.ListN.{length, getD, drop, length-append, length-drop, List·getD-append}
 use lib.Seq.{ext-getD, getD-append-add, getD-drop}
-use Rattle.temporal.specs.Ticket.{Rule, Ticket, events}
+use Rattle.temporal.specs.Ticket.{Ticket, events}
 use Rattle.temporal.specs.Distance.{consistent, distance}
 use Rattle.temporal.specs.Run.{Valid}
-use Rattle.temporal.specs.Table.{ticketOf, rows, filled}
-use Rattle.temporal.specs.TableCauses.{ticket-events}
+use Rattle.temporal.specs.Table.{rows}
 use Rattle.closure.specs.Cases.{by-lt}
 use Rattle.temporal.specs.TableRows.{length-rows, rows-at}
-use Rattle.closure.specs.Signed.{lower}
-use Rattle.closure.specs.Matrix.{Matrix, none, join, Everywhere}
+use Rattle.closure.specs.Matrix.{Matrix, none, shown, join, Everywhere, shown-some}
 use Rattle.closure.specs.Start.{start, started}
 use Rattle.closure.specs.Stops.{after, Floors, AboveFloors, Working, working}
 use Rattle.closure.specs.Distances.{small, all-consistent, all-distance, no-schedule}
+use Rattle.closure.specs.ShortestPaths.{entries-kept, entries-small}
 use Rattle.closure.specs.Steps.{Closed, Written}
 use Rattle.closure.specs.Written.{flat-below, square}
 
@@ -38,81 +39,95 @@ module _ (n : ℕ) (D E : Matrix) (same : Everywhere n (λ i j. D i j ≡ E i j)
   floors-same : (s : ℕ) → AboveFloors n D s → AboveFloors n E s
   floors-same s h r l i j li lj = rw (← (after-same r i j li lj)) (h r l i j li lj)
 
-module _ (h n : ℕ) (rules : List Rule) (valid : Valid (ticketOf h n rules)) (D : Matrix) (same : Everywhere n (λ i j. D i j ≡ start h rules i j)) where
-  count : events (ticketOf h n rules) ≡ n
-  count = ticket-events h n rules
-
+-- A ticket of n events, and entries D that are its first ones.
+module _ (k : Ticket) (valid : Valid k) (n : ℕ) (count : events k ≡ n) (D : Matrix) (same : Everywhere n (λ i j. D i j ≡ start (k .horizon) (k .rules) i j)) where
   pub start-floors : Floors n D
-  start-floors i j li lj = rw (same i j li lj) (started (ticketOf h n rules) valid .floors i j (omega (arith, count)) (omega (arith, count)))
+  start-floors i j li lj = rw (same i j li lj) (started k valid .floors i j (omega (arith, count)) (omega (arith, count)))
 
   pub start-top : Everywhere n (λ i j. D i j ≤ none)
-  start-top i j li lj = rw (same i j li lj) (started (ticketOf h n rules) valid .top i j (omega (arith, count)) (omega (arith, count)))
+  start-top i j li lj = rw (same i j li lj) (started k valid .top i j (omega (arith, count)) (omega (arith, count)))
 
+  -- the entries R after all stops
   module _ (R : Matrix) {r : Bool} (closed : Closed n D R r) where
-    last : r ≡ true → Everywhere n (λ i j. R i j ≡ after n (start h rules) (n + 1) i j)
-    last e i j li lj = closed .entries e i j li lj ∙ after-same n D (start h rules) same (n + 1) i j li lj
+    last : r ≡ true → Everywhere n (λ i j. R i j ≡ after n (start (k .horizon) (k .rules)) (n + 1) i j)
+    last e i j li lj = closed .entries e i j li lj ∙ after-same n D (start (k .horizon) (k .rules)) same (n + 1) i j li lj
 
-    finished : r ≡ true → Working (ticketOf h n rules) (start h rules) (events (ticketOf h n rules) + 1)
-        (after (events (ticketOf h n rules)) (start h rules) (events (ticketOf h n rules) + 1))
-    finished e =
-        working (ticketOf h n rules) valid (events (ticketOf h n rules) + 1) (omega arith)
-        (rw count (floors-same n D (start h rules) same (n + 1) (closed .kept e)))
+    finished : r ≡ true → Working k (start (k .horizon) (k .rules)) (events k + 1) (after (events k) (start (k .horizon) (k .rules)) (events k + 1))
+    finished e = working k valid (events k + 1) (omega arith) (rw count (floors-same n D (start (k .horizon) (k .rules)) same (n + 1) (closed .kept e)))
 
     pub closed-small : r ≡ true → Everywhere n (λ i j. R i j ≤ 3000000)
     closed-small e i j li lj =
         let near = valid .horizon-limit in
-        let below = rw count at (small (ticketOf h n rules) valid _ (finished e) i j (omega (arith, count)) (omega (arith, count))) in
+        let below = rw count at (small k valid _ (finished e) i j (omega (arith, count)) (omega (arith, count))) in
         omega (arith, last e i j li lj)
 
-    pub closed-consistent : r ≡ true → consistent (ticketOf h n rules) ≡ true
-    closed-consistent e = all-consistent (ticketOf h n rules) valid _ (finished e)
+    pub closed-consistent : r ≡ true → consistent k ≡ true
+    closed-consistent e = all-consistent k valid _ (finished e)
 
-    pub closed-distance : r ≡ true → Everywhere n (λ i j. distance (ticketOf h n rules) i j ≡ lower (R i j))
+    pub closed-distance : r ≡ true → Everywhere n (λ i j. distance k i j ≡ shown (R i j))
     closed-distance e i j li lj =
-        rw (last e i j li lj) (rw count at (all-distance (ticketOf h n rules) valid _ (finished e) i j (omega (arith, count)) (omega (arith, count))))
+        let below = closed-small e i j li lj in
+        rw (shown-some (R i j) (λ q. omega arith), last e i j li lj) (rw count at (all-distance k valid _ (finished e) i j (omega (arith, count)) (omega (arith, count))))
 
-    pub closed-none : r ≡ false → consistent (ticketOf h n rules) ≡ false
+    pub closed-none : r ≡ false → consistent k ≡ false
     closed-none e =
         let s = closed .stopped e in
         let f = s .fallen in
         let stop-in = s .stop-in in
         let row-in = f .row-in in
         let column-in = f .column-in in
-        no-schedule (ticketOf h n rules) valid (s .stop) (omega (arith, count))
-        (rw count (floors-same n D (start h rules) same (s .stop) (s .before)))
+        no-schedule k valid (s .stop) (omega (arith, count))
+        (rw count (floors-same n D (start (k .horizon) (k .rules)) same (s .stop) (s .before)))
         (f .row) (f .column) (omega (arith, count)) (omega (arith, count))
-        (rw (count, ← (after-same n D (start h rules) same (suc (s .stop)) (f .row) (f .column) row-in column-in)) (f .low))
+        (rw (count, ← (after-same n D (start (k .horizon) (k .rules)) same (suc (s .stop)) (f .row) (f .column) row-in column-in)) (f .low))
+
+  -- the entries R after the first s stops, on a ticket with a schedule
+  module _ (has : T (consistent k)) (s : ℕ) (l : s ≤ n + 1) where
+    pub start-kept : AboveFloors n D s
+    start-kept = floors-same n (start (k .horizon) (k .rules)) D (λ i j li lj. sym (same i j li lj)) s (rw count at (entries-kept k valid has s (omega (arith, count))))
+
+    module _ (R : Matrix) (next : Everywhere n (λ i j. R i j ≡ after n D s i j)) where
+      pub after-first : Everywhere n (λ i j. R i j ≡ after n (start (k .horizon) (k .rules)) s i j)
+      after-first i j li lj = next i j li lj ∙ after-same n D (start (k .horizon) (k .rules)) same s i j li lj
+
+      pub after-small : Everywhere n (λ i j. R i j ≢ none → R i j ≤ 43000000)
+      after-small i j li lj =
+          rw (after-first i j li lj) (rw count at (entries-small k valid has s (omega (arith, count)) i j (omega (arith, count)) (omega (arith, count))))
 
 -- ---- the output
 
-module _ (n : ℕ) (k : Ticket) (R : Matrix) (before after : List ℤ) (few : n ≤ 40) (wide : 1681 ≤ length before)
-    (far : Everywhere n (λ i j. distance k i j ≡ lower (R i j))) (w : Written n R before after) where
-  table-length : length (rows (n + 1) (n + 1) (distance k)) ≡ (n + 1) * (n + 1)
-  table-length = length-rows (n + 1) (n + 1) (distance k)
+-- The numbers f of every two points, row by row at the start of the output.
+module _ (n : ℕ) (f : ℕ → ℕ → ℤ) (R : Matrix) (before after : List ℤ) (few : n ≤ 40) (wide : 1681 ≤ length before)
+    (far : Everywhere n (λ i j. f i j ≡ shown (R i j))) (w : Written n R before after) where
+  abbrev filled : List ℤ
+  filled = rows (n + 1) (n + 1) f ++ drop ((n + 1) * (n + 1)) before
 
-  filled-length : length after ≡ length (filled n k before)
+  table-length : length (rows (n + 1) (n + 1) f) ≡ (n + 1) * (n + 1)
+  table-length = length-rows (n + 1) (n + 1) f
+
+  filled-length : length after ≡ length filled
   filled-length =
       simp (length-append, length-drop, length-rows)
       (omega (arith, square n few, w .long))
 
-  at-cell : (i j : ℕ) → i ≤ n → j ≤ n → getD after (i * (n + 1) + j) (pos 0) ≡ getD (filled n k before) (i * (n + 1) + j) (pos 0)
+  at-cell : (i j : ℕ) → i ≤ n → j ≤ n → getD after (i * (n + 1) + j) (pos 0) ≡ getD filled (i * (n + 1) + j) (pos 0)
   at-cell i j li lj =
       w .cells i j li lj
       ∙ sym (far i j li lj)
-      ∙ sym (List·getD-append (rows (n + 1) (n + 1) (distance k)) (drop ((n + 1) * (n + 1)) before) (pos 0) (i * (n + 1) + j)
+      ∙ sym (List·getD-append (rows (n + 1) (n + 1) f) (drop ((n + 1) * (n + 1)) before) (pos 0) (i * (n + 1) + j)
       (omega (arith, table-length, flat-below n i j li lj))
-      ∙ rows-at (n + 1) (n + 1) (distance k) i j (omega arith) (omega arith))
+      ∙ rows-at (n + 1) (n + 1) f i j (omega arith) (omega arith))
 
-  past-cells : (q : ℕ) → getD after ((n + 1) * (n + 1) + q) (pos 0) ≡ getD (filled n k before) ((n + 1) * (n + 1) + q) (pos 0)
+  past-cells : (q : ℕ) → getD after ((n + 1) * (n + 1) + q) (pos 0) ≡ getD filled ((n + 1) * (n + 1) + q) (pos 0)
   past-cells q =
       w .beyond ((n + 1) * (n + 1) + q) (omega arith)
-      ∙ sym (ap (λ m. getD (filled n k before) (m + q) (pos 0)) (sym table-length)
-      ∙ getD-append-add (rows (n + 1) (n + 1) (distance k)) (drop ((n + 1) * (n + 1)) before) q (pos 0)
+      ∙ sym (ap (λ m. getD filled (m + q) (pos 0)) (sym table-length)
+      ∙ getD-append-add (rows (n + 1) (n + 1) f) (drop ((n + 1) * (n + 1)) before) q (pos 0)
       ∙ getD-drop ((n + 1) * (n + 1)) before q (pos 0))
 
-  pub written-filled : after ≡ filled n k before
+  pub written-filled : after ≡ rows (n + 1) (n + 1) f ++ drop ((n + 1) * (n + 1)) before
   written-filled =
-      ext-getD (pos 0) after (filled n k before) filled-length (λ p l.
+      ext-getD (pos 0) after filled filled-length (λ p l.
       by-lt p ((n + 1) * (n + 1))
       (λ m.
       let row : p / (n + 1) < n + 1 = div-lt-iff-lt-mul (omega arith) .1 m in

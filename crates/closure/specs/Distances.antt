@@ -2,19 +2,21 @@
 use Prim.Native.Nat.{ℕ, suc, _+_, _≤_, _<_}
 use mathlib.Core.Path.{_≡_, ap}
 use mathlib.Core.Bool.{true, false}
+use mathlib.Core.List.{List}
 use native.Mathlib.Omega.{arith}
 use lib.Dec.{not-T}
-use Rattle.temporal.specs.Lists.{All-map, All-below, below-All, T-true, T-false}
+use Rattle.temporal.specs.Lists.{All-below, below-All, T-true, T-false}
 use Rattle.temporal.specs.Bound.{above, below}
-use Rattle.temporal.specs.Ticket.{Rule, Ticket, events, time}
+use Rattle.temporal.specs.Ticket.{Rule, Ticket, events, time, Schedule}
 use Rattle.temporal.specs.Distance.{consistent, consistent-has, distance}
 use Rattle.temporal.specs.Run.{ValidRule, Valid}
-use Rattle.temporal.specs.DistanceLaws.{inside, IsTable, Points, table-consistent, table-distance}
+use Rattle.temporal.specs.DistanceLaws.{inside, IsTable, table-consistent, table-distance}
+use Rattle.paths.specs.Walks.{valid-points}
 use Rattle.closure.specs.Cases.{by-eq}
 use Rattle.closure.specs.Signed.{bias, lower, raise-parts}
 use Rattle.closure.specs.Matrix.{Matrix, floor, Everywhere, floor-same, floor-other}
-use Rattle.closure.specs.Start.{unused, ruleAt, start, started}
-use Rattle.closure.specs.Stops.{after, AboveFloors, Working, working-sound}
+use Rattle.closure.specs.Start.{unused, ruleAt, start, Sound, started}
+use Rattle.closure.specs.Stops.{after, Floors, AboveFloors, Working, working-sound}
 
 -- The entries D after all stops.
 module _ (k : Ticket) (valid : Valid k) (D : Matrix) (h : Working k (start (k .horizon) (k .rules)) (events k + 1) D) where
@@ -47,25 +49,27 @@ module _ (k : Ticket) (valid : Valid k) (D : Matrix) (h : Working k (start (k .h
         sound = h .sound;
       }
 
-  points : Points k
-  points = All-map (λ (r : Rule) (v : ValidRule (events k) r). (v .from-point, v .to-point)) (k .rules) (valid .rules-valid)
-
   pub all-consistent : consistent k ≡ true
-  all-consistent = T-true (consistent k) (table-consistent k points bias D is-table)
+  all-consistent = T-true (consistent k) (table-consistent k (valid-points k valid) bias D is-table)
 
   pub all-distance : Everywhere (events k) (λ i j. distance k i j ≡ lower (D i j))
-  all-distance = table-distance k points bias D is-table
+  all-distance = table-distance k (valid-points k valid) bias D is-table
 
 module _ (k : Ticket) (valid : Valid k) where
+  -- with a schedule no entry is below its floor
+  pub sound-floors : (ts : List ℕ) → Schedule k ts → (D : Matrix) → Sound k D → Floors (events k) D
+  sound-floors ts schedule D sound i j li lj =
+      let h = sound ts schedule i j li lj in
+      let v = valid .horizon-limit in
+      by-eq i j
+      (λ e. omega (arith, floor-same i, ap (floor i) e, ap (time ts) e))
+      (λ q. omega (arith, floor-other i j q, inside k ts schedule i))
+
   -- an entry below its floor rules out every schedule
   pub no-schedule : (s : ℕ) → s ≤ events k → AboveFloors (events k) (start (k .horizon) (k .rules)) s → (i j : ℕ) → i ≤ events k → j ≤ events k
       → after (events k) (start (k .horizon) (k .rules)) (suc s) i j < floor i j → consistent k ≡ false
   no-schedule s ls kept i j li lj low =
       T-false (consistent k) (not-T (consistent k) (λ t.
-      let ts = consistent-has k .0 t .0 in
-      let p = consistent-has k .0 t .1 in
-      let sound = working-sound k valid s ls kept ts p i j li lj in
-      let v = valid .horizon-limit in
-      by-eq i j
-      (λ e. omega (arith, floor-same i, ap (floor i) e, ap (time ts) e))
-      (λ q. omega (arith, floor-other i j q, inside k ts p i))))
+      let r = consistent-has k .0 t in
+      let floors = sound-floors (r .0) (r .1) (after (events k) (start (k .horizon) (k .rules)) (suc s)) (working-sound k valid s ls kept) in
+      omega (arith, low, floors i j li lj)))

@@ -3,13 +3,16 @@ use Prim.Native.Nat.{ℕ, _+_, _*_, _-_, _≤_, _<_, min}
 use mathlib.Core.Path.{_≡_, refl}
 use mathlib.Core.Bool.{cond}
 use mathlib.Core.List.{List}
-use mathlib.Core.Logic.{_⊎_, inl, inr}
+use mathlib.Core.Logic.{_⊎_, inl, inr, _≢_}
 use native.Mathlib.Omega.{arith}
 use lib.Dec.{eqb}
+use lib.IntN.{ℤ, pos}
 use lib.ListN.{getD}
+use mir.Syntax.{w32}
+use mir.Val.{SFits}
 use borrow.Author.Tests.{eq-eqb, ne-eqb}
 use Rattle.closure.specs.Cases.{by-eq, by-lt}
-use Rattle.closure.specs.Signed.{bias}
+use Rattle.closure.specs.Signed.{bias, lower, lower-fits}
 
 abbrev pub Matrix : Type 0
 Matrix = ℕ → ℕ → ℕ
@@ -20,6 +23,13 @@ entry w i j = getD w (41 * i + j) 0
 
 abbrev pub none : ℕ
 none = 9000000000000000000
+
+-- What the output says of an entry: the true number, or the largest that it can hold where there is no path yet.
+abbrev pub noPath : ℤ
+noPath = pos 2147483647
+
+unfoldable pub shown : ℕ → ℤ
+shown x = cond (eqb x none) noPath (lower x)
 
 -- A path of two parts.
 unfoldable pub join : ℕ → ℕ → ℕ
@@ -49,6 +59,20 @@ pub record Through (r a b : ℕ) : Type 0 where
   pub total : r + bias ≡ a + b
 
 -- ---- laws
+
+pub shown-none : shown none ≡ noPath
+unfolding shown
+shown-none = refl
+
+pub shown-some : (x : ℕ) → x ≢ none → shown x ≡ lower x
+unfolding shown
+shown-some x h = rw (ne-eqb x none h)
+
+pub shown-fits : (x : ℕ) → (x ≢ none → x ≤ 43000000) → SFits w32 (shown x)
+shown-fits x h =
+    by-eq x none
+    (λ e. rw (e, shown-none) (record { sfits = omega arith }))
+    (λ n. rw (shown-some x n) (lower-fits x (h n)))
 
 pub floor-same : (i : ℕ) → floor i i ≡ 2000000
 unfolding floor

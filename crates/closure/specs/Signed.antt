@@ -46,7 +46,7 @@ pub ranged-fits : (c : ℤ) → negsuc 999999 ≤ℤ c → c ≤ℤ pos 1000000 
 ranged-fits (pos c) h k = record { sfits = omega (arith, leb→le c 1000000 (k .le)) }
 ranged-fits (negsuc c) h k = record { sfits = omega (arith, leb→le c 999999 (h .le)) }
 
-pub lower-fits : (x : ℕ) → x ≤ 3000000 → SFits w32 (lower x)
+pub lower-fits : (x : ℕ) → x ≤ 43000000 → SFits w32 (lower x)
 lower-fits x l =
     by-lt x bias
     (λ k. rw (lt-ltb x bias k) (record { sfits = omega arith }))

@@ -75,7 +75,7 @@ pub plain-none : (h i j : ℕ) → (i ≡ j → ⊥) → (j ≡ 0 → ⊥) → (
 unfolding plain
 plain-none h i j a b c = rw (ne-eqb i j a, ne-eqb j 0 b, ne-eqb i 0 c)
 
-plain-cases : {A : Type 0} (h i j : ℕ) → (i ≡ j → plain h i j ≡ bias → A) → ((i ≡ j → ⊥) → j ≡ 0 → plain h i j ≡ bias → A)
+pub plain-cases : {A : Type 0} (h i j : ℕ) → (i ≡ j → plain h i j ≡ bias → A) → ((i ≡ j → ⊥) → j ≡ 0 → plain h i j ≡ bias → A)
     → ((i ≡ j → ⊥) → i ≡ 0 → plain h i j ≡ bias + h → A) → ((i ≡ j → ⊥) → plain h i j ≡ none → A) → A
 plain-cases h i j f g u v =
     by-eq i j

@@ -64,7 +64,7 @@ module _ (k : Ticket) (S : Matrix) (s : ℕ) (few : s ≤ 40) (fit : s ≤ event
       let p = events k - s in
       relax-via (D i j) (D i p) (D p j) (stored i j li lj) (stored i p li (omega arith)) (stored p j (omega arith) lj)
 
-  from : Everywhere (events k) (λ i j. (relax D (events k - s) i j ≡ D i j)
+  pub from : Everywhere (events k) (λ i j. (relax D (events k - s) i j ≡ D i j)
       ⊎ Through (relax D (events k - s) i j) (D i (events k - s)) (D (events k - s) j))
   from i j li lj =
       let p = events k - s in

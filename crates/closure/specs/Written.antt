@@ -8,8 +8,7 @@ use lib.IntN.{ℤ, pos}
 use lib.ListN.{length, getD, set, length-set}
 use lib.Seq.{getD-set-same, getD-set-other}
 use Rattle.closure.specs.Cases.{by-lt, by-eq}
-use Rattle.closure.specs.Signed.{lower}
-use Rattle.closure.specs.Matrix.{Matrix, Everywhere}
+use Rattle.closure.specs.Matrix.{Matrix, shown, Everywhere}
 use Rattle.closure.specs.Steps.{cell, Written}
 
 -- ---- rows of n + 1 numbers, one after the other
@@ -44,17 +43,17 @@ flat-apart n i i' j j' lj lj' differ e =
 -- The entries of the row i in the columns below j are written, and no other number has changed.
 pub record RowWritten (n i j : ℕ) (D : Matrix) (before after : List ℤ) : Type 0 where
   pub long : length after ≡ length before
-  pub row : (c : ℕ) → c < j → cell n after i c ≡ lower (D i c)
+  pub row : (c : ℕ) → c < j → cell n after i c ≡ shown (D i c)
   pub rest : (q : ℕ) → ((c : ℕ) → c < j → q ≡ i * (n + 1) + c → ⊥) → getD after q (pos 0) ≡ getD before q (pos 0)
 
 pub row-none : {n i : ℕ} {D : Matrix} {before : List ℤ} → RowWritten n i 0 D before before
 row-none = record { long = refl; row = λ c l. absurd (omega arith); rest = λ q apart. refl }
 
 pub row-more : (n i j : ℕ) (D : Matrix) (before out : List ℤ) → n ≤ 40 → 1681 ≤ length before → i ≤ n → j ≤ n → RowWritten n i j D before out
-    → RowWritten n i (j + 1) D before (set out (i * (n + 1) + j) (lower (D i j)))
+    → RowWritten n i (j + 1) D before (set out (i * (n + 1) + j) (shown (D i j)))
 row-more n i j D before out ln lb li lj h =
     let f = i * (n + 1) + j in
-    let v = lower (D i j) in
+    let v = shown (D i j) in
     let below = flat-below n i j li lj in
     let small = square n ln in
     let long = h .long in
@@ -76,7 +75,7 @@ row-more n i j D before out ln lb li lj h =
 -- The entries of the first i rows are written.
 pub record Writing (n : ℕ) (D : Matrix) (before after : List ℤ) (i : ℕ) : Type 0 where
   pub long : length after ≡ length before
-  pub cells : Everywhere n (λ r j. r < i → cell n after r j ≡ lower (D r j))
+  pub cells : Everywhere n (λ r j. r < i → cell n after r j ≡ shown (D r j))
   pub beyond : (q : ℕ) → (n + 1) * (n + 1) ≤ q → getD after q (pos 0) ≡ getD before q (pos 0)
 
 pub writing-none : {n : ℕ} {D : Matrix} {before : List ℤ} → Writing n D before before 0

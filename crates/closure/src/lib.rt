@@ -1,9 +1,10 @@
 // The matrix of distances between the points of a network: its first entries, its closing stop by stop, and its writing to an output.
 // The working array has 41 rows of 41 entries. An entry is a true number plus BIAS, or NONE where there is no path yet.
-// Rests on `temporal`, whose rules and schedules the entries are about.
+// Rests on `temporal`, whose rules and schedules the entries are about, and on `paths`, whose shortest paths they are.
 
 ghost use mathlib.Core.Path.{_≡_};
-ghost use Prim.Native.Nat.{_+_, _*_, _≤_, min};
+ghost use mathlib.Core.Logic.{_≢_};
+ghost use Prim.Native.Nat.{_+_, _*_, _-_, _≤_, min};
 ghost use lib.IntN.{pos, negsuc};
 ghost use lib.Signed.{_≤ℤ_};
 ghost use lib.ListN.{length, set};
@@ -12,7 +13,8 @@ ghost use Rattle.closure.specs.Matrix as matrix;
 ghost use Rattle.closure.specs.Matrix.{entry, none, Everywhere, Stored};
 ghost use Rattle.closure.specs.Start as start;
 ghost use Rattle.closure.specs.Plain.{Pathless};
-ghost use Rattle.closure.specs.Stops.{Floors};
+ghost use Rattle.closure.specs.Stops.{after, Floors, AboveFloors};
+ghost use Rattle.closure.specs.Meaning.{Carried};
 ghost use Rattle.closure.specs.Steps.{Checked, Closed, Written};
 ghost use Rattle.closure.specs.Rows.{StoredRows, RowRelaxed, RowChecked};
 ghost use Rattle.closure.specs.Written.{RowWritten};
@@ -23,6 +25,9 @@ const BIAS: u64 = 2_000_000;
 const LEAST: u64 = 1_000_000;
 
 const NONE: u64 = 9_000_000_000_000_000_000;
+
+// What an output says where there is no path yet.
+const NO_PATH: i32 = 2_147_483_647;
 
 // A path of two parts.
 fn join(a: u64, b: u64) -> u64
@@ -78,10 +83,21 @@ fn raised(c: i32) -> u64
 
 // An entry as a signed number.
 fn lowered(x: u64) -> i32
-    requires { ⌜ x ≤ 3000000 ⌝ }
+    requires { ⌜ x ≤ 43000000 ⌝ }
     ensures { λ r. ⌜ r ≡ lower x ⌝ }
 {
     (x as i32) - 2_000_000
+}
+
+// An entry as an output says it.
+fn shown(x: u64) -> i32
+    requires { ⌜ (x ≢ none → x ≤ 43000000) ⌝ }
+    ensures { λ r. ⌜ r ≡ matrix.shown x ⌝ }
+{
+    if x == NONE {
+        return NO_PATH;
+    }
+    lowered(x)
 }
 
 // The place of the entry from i to j.
@@ -117,12 +133,14 @@ fn relax_row(w: &mut [u64; 1681], n: usize, k: usize, i: usize)
     }
 }
 
-// The stop k: paths may also go through k. The row k, which the others read, is the last.
-fn relax(w: &mut [u64; 1681], n: usize, k: usize)
+// The stop k, after the stops n down to k + 1: paths may also go through k. The row k, which the others read, is the last.
+// Where the entries were the shortest paths by the stops taken, they are now those by k too.
+pub fn stop(w: &mut [u64; 1681], n: usize, k: usize)
     requires { ⌜ (n ≤ 40) × (k ≤ n) × (length (now w) ≡ 1681) ⌝ }
     requires { ⌜ Everywhere n (λ i j. Stored (entry (now w) i j)) ⌝ }
     ensures { λ _. ⌜ length (now (w .exit)) ≡ 1681 ⌝ }
     ensures { λ _. ⌜ Everywhere n (λ i j. entry (now (w .exit)) i j ≡ matrix.relax (entry (now (w .entry))) k i j) ⌝ }
+    ensures { λ _. ⌜ Carried n (n - k) (entry (now (w .entry))) (n - k + 1) (entry (now (w .exit))) ⌝ }
 {
     let mut i = 0;
     while i <= n {
@@ -167,50 +185,51 @@ fn possible(w: &[u64; 1681], n: usize) -> bool
     true
 }
 
-// The entries after the stops n down to 0, unless one fell below its floor.
-pub struct Outcome {
-    pub possible: bool,
-    pub entries: [u64; 1681],
-}
-
-// The stops, from n down to 0.
-pub fn closure(start: [u64; 1681], n: usize) -> Outcome
-    requires { ⌜ n ≤ 40 ⌝ }
-    requires { ⌜ Floors n (entry start) ⌝ }
-    requires { ⌜ Everywhere n (λ i j. entry start i j ≤ none) ⌝ }
-    ensures { λ r. ⌜ Closed n (entry start) (entry (r .entries)) (r .possible) ⌝ }
+// The stops, from n down to 0, until an entry falls below its floor: whether none did.
+pub fn closure(w: &mut [u64; 1681], n: usize) -> bool
+    requires { ⌜ (n ≤ 40) × (length (now w) ≡ 1681) ⌝ }
+    requires { ⌜ Floors n (entry (now w)) ⌝ }
+    requires { ⌜ Everywhere n (λ i j. entry (now w) i j ≤ none) ⌝ }
+    ensures { λ r. ⌜ Closed n (entry (now (w .entry))) (entry (now (w .exit))) r ⌝ }
 {
-    let mut w = start;
     let mut s = 0;
     while s <= n {
-        relax(&mut w, n, n - s);
-        if !possible(&w, n) {
-            return Outcome {
-                possible: false,
-                entries: w,
-            };
+        stop(w, n, n - s);
+        if !possible(w, n) {
+            return false;
         }
         s += 1;
     }
-    Outcome {
-        possible: true,
-        entries: w,
+    true
+}
+
+// The first `count` of the stops n down to 0.
+pub fn take_stops(w: &mut [u64; 1681], n: usize, count: usize)
+    requires { ⌜ (n ≤ 40) × (count ≤ n + 1) × (length (now w) ≡ 1681) ⌝ }
+    requires { ⌜ AboveFloors n (entry (now w)) count ⌝ }
+    requires { ⌜ Everywhere n (λ i j. entry (now w) i j ≤ none) ⌝ }
+    ensures { λ _. ⌜ Everywhere n (λ i j. entry (now (w .exit)) i j ≡ after n (entry (now (w .entry))) count i j) ⌝ }
+{
+    let mut taken = 0;
+    while taken < count {
+        stop(w, n, n - taken);
+        taken += 1;
     }
 }
 
 // The entry x from i to j is stored as a signed number.
 fn put(out: &mut [i32], n: usize, i: usize, j: usize, x: u64)
-    requires { ⌜ (n ≤ 40) × (1681 ≤ length (now out)) × (i ≤ n) × (j ≤ n) × (x ≤ 3000000) ⌝ }
-    ensures { λ _. ⌜ now (out .exit) ≡ set (now (out .entry)) (i * (n + 1) + j) (lower x) ⌝ }
+    requires { ⌜ (n ≤ 40) × (1681 ≤ length (now out)) × (i ≤ n) × (j ≤ n) × (x ≢ none → x ≤ 43000000) ⌝ }
+    ensures { λ _. ⌜ now (out .exit) ≡ set (now (out .entry)) (i * (n + 1) + j) (matrix.shown x) ⌝ }
 {
-    let y = lowered(x);
+    let y = shown(x);
     out[i * (n + 1) + j] = y;
 }
 
 // The entries of the row i are stored.
 fn write_row(w: &[u64; 1681], n: usize, i: usize, out: &mut [i32])
     requires { ⌜ (n ≤ 40) × (1681 ≤ length (now out)) × (i ≤ n) ⌝ }
-    requires { ⌜ Everywhere n (λ i j. entry (now w) i j ≤ 3000000) ⌝ }
+    requires { ⌜ Everywhere n (λ i j. entry (now w) i j ≢ none → entry (now w) i j ≤ 43000000) ⌝ }
     ensures { λ _. ⌜ RowWritten n i (n + 1) (entry (now (w .entry))) (now (out .entry)) (now (out .exit)) ⌝ }
 {
     let mut j = 0;
@@ -221,14 +240,14 @@ fn write_row(w: &[u64; 1681], n: usize, i: usize, out: &mut [i32])
 }
 
 // All entries between points of the network are stored, row by row.
-pub fn write(w: [u64; 1681], n: usize, out: &mut [i32])
+pub fn write(w: &[u64; 1681], n: usize, out: &mut [i32])
     requires { ⌜ (n ≤ 40) × (1681 ≤ length (now out)) ⌝ }
-    requires { ⌜ Everywhere n (λ i j. entry w i j ≤ 3000000) ⌝ }
-    ensures { λ _. ⌜ Written n (entry w) (now (out .entry)) (now (out .exit)) ⌝ }
+    requires { ⌜ Everywhere n (λ i j. entry (now w) i j ≢ none → entry (now w) i j ≤ 43000000) ⌝ }
+    ensures { λ _. ⌜ Written n (entry (now (w .entry))) (now (out .entry)) (now (out .exit)) ⌝ }
 {
     let mut i = 0;
     while i <= n {
-        write_row(&w, n, i, out);
+        write_row(w, n, i, out);
         i += 1;
     }
 }

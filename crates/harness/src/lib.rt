@@ -1,4 +1,4 @@
-// What the tests call beside the four functions of crate `beyunlak`: both plans and commitment with lent scratch, reading a ticket or a record and
+// What the tests call beside the functions of crate `beyunlak`: both plans and commitment with lent scratch, reading a ticket or a record and
 // writing it back, and writing a ticket or a record of given values. Each answers the refusal number; a second result is stored through a reference.
 ghost use mathlib.Core.Path.{_≡_};
 ghost use lib.IntN.{pos};

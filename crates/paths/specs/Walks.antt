@@ -1,19 +1,19 @@
 -- Walks along rules: joined and cut, their sums without a sign, and that no schedule has more between two points than a walk's sum.
 -- And what holds of every rule of a ticket, the unwritten ones too, with the laws of the numbers.
 use mathlib.Core.Path.{_≡_, refl, sym, ap, _∙_, subst}
-use mathlib.Core.Bool.{Bool, true, false, not, cond}
 use mathlib.Core.List.{List, [], _∷_, _++_}
 use Prim.Native.Nat.{ℕ, zero, suc, _+_, _*_, _-_, _≤_, _<_}
 use native.Mathlib.Nat.{add-zero}
 use native.Mathlib.Omega.{arith}
-use lib.Dec.{T, ltb, ltb→lt, nltb→le}
 use lib.IntN.{ℤ, pos, negsuc, subℕ, _+ℤ_}
+use lib.Signed.{_≤ℤ_}
 use lib.ListN.{length, getD, List·getD-append}
 use lib.Seq.{getD-append-add}
-use Rattle.temporal.specs.Lists.{All, All-at, All-join}
-use Rattle.temporal.specs.Bound.{AtMost, above, below, signed}
+use Rattle.temporal.specs.Lists.{All, All-map, All-at, All-join}
+use Rattle.temporal.specs.Bound.{AtMost, above, below, above-most, below-most, signed}
 use Rattle.temporal.specs.Ticket.{Rule, Ticket, events, time, Schedule}
-use Rattle.temporal.specs.DistanceLaws.{Points, inside}
+use Rattle.temporal.specs.Run.{ValidRule, Valid}
+use Rattle.temporal.specs.DistanceLaws.{Points, parts, from-parts, inside}
 use Rattle.paths.specs.Rules.{back, out, unwritten, allRules, ruleAt, fromOf, toOf, boundOf, Walk, sum}
 
 -- ---- walks, joined and cut
@@ -51,15 +51,6 @@ unfolding downs
 downs-join k [] b = omega arith
 downs-join k (e ∷ es) b = omega (arith, downs-join k es b)
 
-parts-by : (c d : ℕ) (t : Bool) → (T t → c < d) → (T (not t) → d ≤ c)
-    → c + below (cond t (negsuc (d - suc c)) (pos (c - d))) ≡ d + above (cond t (negsuc (d - suc c)) (pos (c - d)))
-unfolding above below
-parts-by c d true lt ge = omega (arith, lt tt)
-parts-by c d false lt ge = omega (arith, ge tt)
-
-parts : (c d : ℕ) → c + below (subℕ c d) ≡ d + above (subℕ c d)
-parts c d = parts-by c d (ltb c d) (λ t. ltb→lt c d t) (λ t. nltb→le c d t)
-
 add-parts : (a b : ℤ) → above (a +ℤ b) + (below a + below b) ≡ below (a +ℤ b) + (above a + above b)
 unfolding above below
 add-parts (pos a) (pos b) = omega arith
@@ -71,6 +62,13 @@ pub sum-parts : (k : Ticket) (es : List ℕ) → above (sum k es) + downs k es �
 unfolding ups downs
 sum-parts k [] = unfold above below in refl
 sum-parts k (e ∷ es) = omega (arith, add-parts (boundOf k e) (sum k es), sum-parts k es)
+
+-- the sum, stored higher by `base`, is x, or at least x
+pub sum-is : (k : Ticket) (es : List ℕ) (base x : ℕ) → x + downs k es ≡ base + ups k es → sum k es ≡ subℕ x base
+sum-is k es base x e = from-parts (sum k es) x base (omega (arith, sum-parts k es))
+
+pub sum-least : (k : Ticket) (es : List ℕ) (base x : ℕ) → x + downs k es ≤ base + ups k es → subℕ x base ≤ℤ sum k es
+sum-least k es base x l = signed base x (sum k es) .1 (omega (arith, sum-parts k es))
 
 -- ---- what holds of every rule
 
@@ -92,6 +90,29 @@ rule-all P k h z f (suc i) = All-at P (back 0) z (k .rules ++ unwritten (k .hori
 -- every rule goes from a point of the ticket to one
 pub rule-points : (k : Ticket) → Points k → (e : ℕ) → (fromOf k e ≤ events k) × (toOf k e ≤ events k)
 rule-points k points e = rule-all (λ (r : Rule). (r .from ≤ events k) × (r .to ≤ events k)) k points (omega arith) (λ i l h. ((h, omega arith), (omega arith, h))) e
+
+module _ (k : Ticket) (v : Valid k) where
+  pub valid-points : Points k
+  valid-points = All-map (λ (r : Rule) (h : ValidRule (events k) r). (h .from-point, h .to-point)) (k .rules) (v .rules-valid)
+
+  -- the bound of every rule lies between -1,000,000 and 1,000,000
+  pub bound-below : (e : ℕ) → below (boundOf k e) ≤ 1000000
+  unfolding below
+  bound-below e = rule-all (λ (r : Rule). below (r .bound) ≤ 1000000) k
+      (All-map (λ (r : Rule) (h : ValidRule (events k) r). below-most (r .bound) (h .at-least)) (k .rules) (v .rules-valid))
+      (omega arith) (λ i a b. (omega arith, omega arith)) e
+
+  pub bound-above : (e : ℕ) → above (boundOf k e) ≤ 1000000
+  unfolding above
+  bound-above e = rule-all (λ (r : Rule). above (r .bound) ≤ 1000000) k
+      (All-map (λ (r : Rule) (h : ValidRule (events k) r). above-most (r .bound) (h .at-most)) (k .rules) (v .rules-valid))
+      (omega arith) (λ i a b. (omega arith, v .horizon-limit)) e
+
+  -- so no sum is above a million for each of its rules
+  pub ups-most : (es : List ℕ) → ups k es ≤ length es * 1000000
+  unfolding ups
+  ups-most [] = omega arith
+  ups-most (e ∷ es) = omega (arith, bound-above e, ups-most es)
 
 -- ---- the numbers: 1 to m in ticket order, m + 2 × i - 1 for "i to 0: 0", m + 2 × i for "0 to i: H"
 

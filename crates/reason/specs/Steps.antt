@@ -25,8 +25,9 @@ use Rattle.text.specs.Stores.{Puts}
 use Rattle.writing.specs.Stores.{sets-over}
 use Rattle.names.specs.Names.{wellFormed}
 use Rattle.paths.specs.Rules.{Number}
+use Rattle.paths.specs.Walks.{valid-points}
 use Rattle.rings.specs.Ring.{ring}
-use Rattle.rings.specs.Printed.{ring-printed, valid-points}
+use Rattle.rings.specs.Printed.{ring-printed}
 use Rattle.ring.specs.Answer.{printed, printed-rules, printed-most, printed-none}
 use Rattle.ring.specs.declared.Found.{Found}
 use Rattle.reasons.specs.Text.{ringText}

@@ -21,8 +21,9 @@ use Rattle.ticket.specs.Format.{readTicket}
 use Rattle.ticket.specs.Writing.{over}
 use Rattle.ticket.specs.RoundTrip.{Bytes, written-read, answered}
 use Rattle.names.specs.Names.{wellFormed}
+use Rattle.paths.specs.Walks.{valid-points}
 use Rattle.rings.specs.Ring.{ring}
-use Rattle.rings.specs.Printed.{Printed, ring-printed, ring-valid, valid-points}
+use Rattle.rings.specs.Printed.{Printed, ring-printed, ring-valid}
 use Rattle.reasons.specs.Text.{ringText}
 use Rattle.reasons.specs.Reading.{readText, steps, read-back}
 use Rattle.reasons.specs.Size.{text-size}

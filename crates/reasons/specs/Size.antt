@@ -15,8 +15,8 @@ use Rattle.text.specs.Text.{decimal-length, line}
 use Rattle.names.specs.Names.{wellFormed}
 use Rattle.names.specs.Laws.{name-short}
 use Rattle.paths.specs.Rules.{fromOf, boundOf, Number}
+use Rattle.paths.specs.Walks.{bound-below, bound-above}
 use Rattle.rings.specs.Printed.{size-valid}
-use Rattle.rings.specs.Costs.{bound-below, bound-above}
 use Rattle.reasons.specs.Text.{signedDecimal, atLine, pointLine, ruleLine, ringText}
 
 -- ---- the lines

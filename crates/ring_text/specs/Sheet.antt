@@ -11,7 +11,6 @@ use lib.Dec.{leb, eqb}
 use lib.IntN.{ℤ, pos, natAbs}
 use lib.ListN.{getD}
 use Rattle.temporal.specs.Lists.{All, All-at, below-or-not}
-use Rattle.temporal.specs.Ticket as temporal
 use Rattle.temporal.specs.Ticket.{Rule, events}
 use Rattle.temporal.specs.Run.{Valid}
 use Rattle.ticket.specs.Writing.{ownerIn, content}
@@ -19,9 +18,8 @@ use Rattle.ticket.specs.WritingLaws.{getD-firsts}
 use Rattle.ticket.specs.declared.Ticket.{Ticket}
 use Rattle.names.specs.Names.{wellFormed, nameAt}
 use Rattle.paths.specs.Rules.{fromOf, boundOf, Number}
-use Rattle.paths.specs.Walks.{rule-points}
+use Rattle.paths.specs.Walks.{rule-points, valid-points}
 use Rattle.paths.specs.Structs.{in-events, in-rules, written-in, back-in, out-in}
-use Rattle.rings.specs.Printed.{valid-points}
 use Rattle.reasons.specs.Text.{atLine, pointLine, ruleLine, ringText}
 use Rattle.reasons.specs.Size.{bound-small}
 

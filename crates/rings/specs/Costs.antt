@@ -10,12 +10,12 @@ use native.Mathlib.Decide.{ℕ-discrete}
 use native.Mathlib.Omega.{arith}
 use lib.Dec.{T, not-T, eqb, eqb→eq, eqb-refl}
 use lib.ListN.{length}
-use Rattle.temporal.specs.Lists.{All, All-map, T-true, T-false, below-or-not}
-use Rattle.temporal.specs.Bound.{above, below, above-most, below-most, biased}
-use Rattle.temporal.specs.Ticket.{Rule, Ticket, events}
-use Rattle.temporal.specs.Run.{Valid, ValidRule}
+use Rattle.temporal.specs.Lists.{All, T-true, T-false, below-or-not}
+use Rattle.temporal.specs.Bound.{above, below, biased}
+use Rattle.temporal.specs.Ticket.{Rule, Ticket}
+use Rattle.temporal.specs.Run.{Valid}
 use Rattle.paths.specs.Rules.{back, out, size, ruleAt, fromOf, toOf, boundOf, Number, Walk}
-use Rattle.paths.specs.Walks.{ups, downs, rule-all}
+use Rattle.paths.specs.Walks.{ups, downs, bound-below, bound-above}
 use Rattle.rings.specs.Ring.{startOf, Ring, eqb-eq}
 use Rattle.rings.specs.Loops.{ring-loop, walk-start, loop-ring}
 
@@ -169,26 +169,13 @@ cost-out k e h i q = ap (λ (r : Rule). biased (r .bound)) q ∙ plain
     plain = omega arith
 
 module _ (k : Ticket) (v : Valid k) where
-  -- the bound of every rule lies between -1,000,000 and 1,000,000
-  pub bound-below : (e : ℕ) → below (boundOf k e) ≤ 1000000
-  unfolding below
-  bound-below e = rule-all (λ (r : Rule). below (r .bound) ≤ 1000000) k
-      (All-map (λ (r : Rule) (h : ValidRule (events k) r). below-most (r .bound) (h .at-least)) (k .rules) (v .rules-valid))
-      (omega arith) (λ i a b. (omega arith, omega arith)) e
-
-  pub bound-above : (e : ℕ) → above (boundOf k e) ≤ 1000000
-  unfolding above
-  bound-above e = rule-all (λ (r : Rule). above (r .bound) ≤ 1000000) k
-      (All-map (λ (r : Rule) (h : ValidRule (events k) r). above-most (r .bound) (h .at-most)) (k .rules) (v .rules-valid))
-      (omega arith) (λ i a b. (omega arith, v .horizon-limit)) e
-
   pub cost-parts : (e : ℕ) → cost k e + below (boundOf k e) ≡ 1000000 + above (boundOf k e)
   unfolding cost biased
-  cost-parts e = omega (arith, bound-below e)
+  cost-parts e = omega (arith, bound-below k v e)
 
   -- no rule costs more than two millions
   pub cost-most : (e : ℕ) → cost k e ≤ 2000000
-  cost-most e = omega (arith, cost-parts e, bound-above e)
+  cost-most e = omega (arith, cost-parts e, bound-above k v e)
 
   pub costs-parts : (es : List ℕ) → costs k es + downs k es ≡ length es * 1000000 + ups k es
   unfolding costs ups downs

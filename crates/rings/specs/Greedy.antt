@@ -16,9 +16,9 @@ use Rattle.temporal.specs.DistanceLaws.{Points}
 use Rattle.temporal.specs.Run.{Valid}
 use Rattle.rings.specs.Order.{seek, First, seek-first, seek-is, seek-same, anyUpto, any-has, has-any, Before}
 use Rattle.paths.specs.Rules.{size, fromOf, toOf, Number, Walk}
-use Rattle.paths.specs.Walks.{rule-points}
+use Rattle.paths.specs.Walks.{rule-points, valid-points}
 use Rattle.rings.specs.Ring.{startOf, Ring, rings, fewest, ring, rings-has, eqb-eq}
-use Rattle.rings.specs.Printed.{Printed, some-∈, ∈-some, fewest-none, ring-none, valid-points, fewest-first, fewest-least, ring-count, ring-printed, printed-ring, first-lowest, ring-valid}
+use Rattle.rings.specs.Printed.{Printed, some-∈, ∈-some, fewest-none, ring-none, fewest-first, fewest-least, ring-count, ring-printed, printed-ring, first-lowest, ring-valid}
 use Rattle.rings.specs.Costs.{top, cost, costs, walks, via-attained, walks-there, walks-more, walks-least, ring-costs, costs-ring, walks-ring}
 
 -- ---- the definitions

@@ -13,13 +13,16 @@ use Rattle.temporal.specs.Lists.{All, All-map, All-∈, _∈_, keep, keep-∈, 
 use Rattle.temporal.specs.Ticket.{Ticket, events}
 use Rattle.temporal.specs.Distance.{some?, consistent, consistent-has}
 use Rattle.temporal.specs.DistanceLaws.{Points}
-use Rattle.temporal.specs.Run.{Valid, ValidRule}
+use Rattle.temporal.specs.Run.{Valid}
 use Rattle.rings.specs.Order.{First, seek-first, seek-none, Before, before-antisym, firstOf, firstOf-first}
-use Rattle.rings.specs.Turns.{Differ, Lowest, isLowest, test-lowest, lowest-test, cut, Turn, turn-length, lowest-turn, lowest-once}
+use Rattle.rings.specs.Turns.{Lowest, isLowest, test-lowest, lowest-test, cut, Turn, turn-length, lowest-turn, lowest-once}
 use Rattle.paths.specs.Rules.{size}
+use Rattle.paths.specs.Walks.{valid-points}
+use Rattle.paths.specs.Repeats.{Differ}
+use Rattle.paths.specs.Shortest.{points}
 use Rattle.rings.specs.Ring.{Ring, rings, fewest, ring, rings-has}
 use Rattle.rings.specs.Loops.{ring-turn}
-use Rattle.rings.specs.Shorten.{points, shortest-points, shortest-rules}
+use Rattle.rings.specs.Shorten.{shortest-points, shortest-rules}
 use Rattle.rings.specs.Schedules.{ring-refutes, ring-iff}
 
 -- what 02 says of the ring that is printed
@@ -153,9 +156,6 @@ first-lowest k (e ∷ es) r f =
     All-map (λ x (h : c .1 ≤ x). omega (arith, low)) es (c .4 .1)
 
 -- ---- of a valid ticket
-
-pub valid-points : (k : Ticket) → Valid k → Points k
-valid-points k v = All-map (λ r (h : ValidRule (events k) r). (h .from-point, h .to-point)) (k .rules) (v .rules-valid)
 
 -- at most 41 rules
 pub ring-valid : (k : Ticket) → Valid k → ¬ T (consistent k) → length (ring k) ≤ 41

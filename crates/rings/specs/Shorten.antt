@@ -1,22 +1,20 @@
 -- A ring that meets a point twice splits into two closed walks, one of which is a ring. So where there is a ring there is one of at most
 -- n + 1 rules, and one with the fewest rules possible meets no point twice, and has no rule twice.
 use mathlib.Core.Path.{_≡_, ap, subst}
-use mathlib.Core.List.{List, [], _∷_, _++_, map}
+use mathlib.Core.List.{List, _∷_, _++_}
 use mathlib.Core.Logic.{_⊎_, inl, inr, ⊎-elim}
 use Prim.Native.Nat.{ℕ, zero, suc, _≤_, _<_}
 use native.Mathlib.Omega.{arith}
-use lib.ListN.{length, length-append, length-map}
+use lib.ListN.{length, length-append}
 use Rattle.temporal.specs.Lists.{All, All-join, All-parts, below-or-not}
 use Rattle.temporal.specs.Ticket.{Ticket, events}
 use Rattle.temporal.specs.DistanceLaws.{Points}
-use Rattle.rings.specs.Turns.{Differ, differ-map, pigeonhole, Repeat, repeats}
 use Rattle.paths.specs.Rules.{fromOf, Number, Walk}
-use Rattle.paths.specs.Walks.{walk-join, walk-cut, ups, downs, ups-join, downs-join, rule-points}
+use Rattle.paths.specs.Walks.{walk-join, walk-cut, ups, downs, ups-join, downs-join}
+use Rattle.paths.specs.Repeats.{Differ, differ-map, Repeat, repeats}
+use Rattle.paths.specs.Shortest.{points, few-points}
 use Rattle.rings.specs.Ring.{startOf, Ring}
 use Rattle.rings.specs.Loops.{Loop, ring-loop, loop-ring}
-
-abbrev pub points : Ticket → List ℕ → List ℕ
-points k es = map (fromOf k) es
 
 -- the inner walk, and the outer one that leaves it out
 split : (k : Ticket) (a : List ℕ) (e : ℕ) (b : List ℕ) (f : ℕ) (c : List ℕ) (s : ℕ) → fromOf k e ≡ fromOf k f → Loop k s (a ++ ((e ∷ b) ++ (f ∷ c)))
@@ -83,14 +81,10 @@ shorter k es r t = ⊎-elim
         let second = length-append inner (t .y ∷ t .back) in
         (omega (arith, whole, first, second), omega (arith, whole, first, second, length-append (t .front) (t .y ∷ t .back)))
 
-all-points : (k : Ticket) → Points k → (es : List ℕ) → All (λ p. p < suc (events k)) (points k es)
-all-points k ps [] = tt
-all-points k ps (e ∷ es) = (omega (arith, rule-points k ps e), all-points k ps es)
-
 shorten : (k : Ticket) → Points k → (n : ℕ) (es : List ℕ) → length es ≤ n → Ring k es → (fs : List ℕ) × Ring k fs × (length fs ≤ suc (events k))
 shorten k ps zero es l r = absurd (omega arith)
 shorten k ps (suc n) es l r = ⊎-elim
-    (λ (d : Differ (points k es)). (es, r, omega (arith, length-map es (fromOf k), pigeonhole (suc (events k)) (points k es) d (all-points k ps es))))
+    (λ (d : Differ (points k es)). (es, r, few-points k ps es d))
     (λ (t : Repeat (fromOf k) es).
     let s = shorter k es r t in
     shorten k ps n (s .0) (omega (arith, s .2)) (s .1))

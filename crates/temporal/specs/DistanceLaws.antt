@@ -1,12 +1,13 @@
 -- Laws of the distance: it is 0 from a point to itself, and between -h and h. And when a table of numbers is the table of distances:
 -- it obeys the rules and the triangle inequality, and no schedule exceeds it. Entries are stored higher by `base`.
-use mathlib.Core.Path.{_≡_, sym, _∙_, subst}
+use mathlib.Core.Path.{_≡_, sym, ap, _∙_, subst}
 use mathlib.Core.Bool.{Bool, true, false, not, cond}
 use mathlib.Core.List.{List, _∷_}
 use Prim.Native.Nat.{ℕ, zero, suc, _+_, _-_, _≤_, _<_}
 use native.Mathlib.Omega.{arith}
+use borrow.Author.Tests.{lt-ltb, le-ltb}
 use lib.Dec.{T, ltb, ltb→lt, nltb→le}
-use lib.IntN.{pos, negsuc, subℕ}
+use lib.IntN.{ℤ, pos, negsuc, subℕ}
 use lib.Signed.{_≤ℤ_}
 use Rattle.temporal.specs.Lists.{All, All-map₂, All-at, tab, length-tab, getD-tab, All-tab}
 use Rattle.temporal.specs.Bound.{AtMost, above, below, signed}
@@ -20,7 +21,7 @@ unfolding above below
 parts-by c d true lt ge = omega (arith, lt tt)
 parts-by c d false lt ge = omega (arith, ge tt)
 
-parts : (c d : ℕ) → c + below (subℕ c d) ≡ d + above (subℕ c d)
+pub parts : (c d : ℕ) → c + below (subℕ c d) ≡ d + above (subℕ c d)
 parts c d = parts-by c d (ltb c d) (λ t. ltb→lt c d t) (λ t. nltb→le c d t)
 
 -- a minus b is at most c minus d
@@ -29,6 +30,18 @@ sub-le a b c d h = signed b a (subℕ c d) .1 (omega (arith, parts c d))
 
 pub sub-eq : (a b c d : ℕ) → a + d ≡ b + c → subℕ a b ≡ subℕ c d
 sub-eq a b c d h = leZ-antisym (subℕ a b) (subℕ c d) (sub-le a b c d (omega arith) .le) (sub-le c d a b (omega arith) .le)
+
+pub sub-zero : (n : ℕ) → subℕ n 0 ≡ pos n
+sub-zero n = rw (le-ltb n 0 (omega arith)) (ap pos (omega arith))
+
+pub zero-sub : (n : ℕ) → subℕ 0 (suc n) ≡ negsuc n
+zero-sub n = rw (lt-ltb 0 (suc n) (omega arith)) (ap negsuc (omega arith))
+
+-- a signed number from its parts: it is a minus b
+pub from-parts : (z : ℤ) (a b : ℕ) → a + below z ≡ b + above z → z ≡ subℕ a b
+unfolding above below
+from-parts (pos n) a b h = sym (sub-zero n) ∙ sub-eq n 0 a b (omega arith)
+from-parts (negsuc n) a b h = sym (zero-sub n) ∙ sub-eq 0 (suc n) a b (omega arith)
 
 -- ---- the laws
 

@@ -4,7 +4,6 @@ use mathlib.Core.Path.{_≡_, refl, sym, ap, _∙_, subst}
 use mathlib.Core.List.{List}
 use Prim.Native.Nat.{ℕ, zero, suc}
 use native.Mathlib.Omega.{arith}
-use borrow.Author.Tests.{lt-ltb, le-ltb}
 use lib.Dec.{T, le→leb}
 use lib.IntN.{ℤ, pos, negsuc, negℤ, subℕ}
 use lib.Signed.{_≤ℤ_}
@@ -12,6 +11,7 @@ use Rattle.temporal.specs.Lists.{All, All-∈, ∈-All}
 use Rattle.temporal.specs.Bound.{AtMost, above, below, signed}
 use Rattle.temporal.specs.Ticket.{Rule, Ticket, time, Schedule}
 use Rattle.temporal.specs.Distance.{consistent, distance, distance-attained, distance-most}
+use Rattle.temporal.specs.DistanceLaws.{sub-zero, zero-sub}
 
 -- ---- "how bounds are indexed (from i to j)"
 
@@ -41,12 +41,6 @@ pub record Earliest (k : Ticket) (i : ℕ) (d : ℤ) : Type 0 where
   pub schedule : Schedule k times
   pub attained : pos (time times i) ≡ d
   pub least : (ts : List ℕ) → Schedule k ts → d ≤ℤ pos (time ts i)
-
-sub-zero : (t : ℕ) → subℕ t 0 ≡ pos t
-sub-zero t = rw (le-ltb t 0 (omega arith)) (ap pos (omega arith))
-
-zero-sub : (t : ℕ) → subℕ 0 (suc t) ≡ negsuc t
-zero-sub t = rw (lt-ltb 0 (suc t) (omega arith)) (ap negsuc (omega arith))
 
 back-to-start : (t : ℕ) → negℤ (subℕ 0 t) ≡ pos t
 back-to-start zero = refl

@@ -3,7 +3,7 @@ use Prim.Native.Nat.{_+_, _*_, _<_}
 use native.Mathlib.Omega.{arith}
 use borrow.Author.Needs.{needs}
 use mir.Facts.{toZ-ofZ}
-use Rattle.closure.specs.Signed.{lower-fits}
+use Rattle.closure.specs.Matrix.{shown-fits}
 use Rattle.closure.specs.Written.{flat-below, square}
 use Rattle.closure.proofs.put.Statement.{statement}
 use Rattle.closure.proofs.put.Tie as tie
@@ -29,7 +29,7 @@ slice-set-from-y c = omega (arith, small (c .before))
 returns : tie.Need-returns
 returns c =
     let s = c .before in
-    rw (c .lowered .ensures, toZ-ofZ (lower-fits (s .args .x) (s .pre .4)))
+    rw (c .shown .ensures, toZ-ofZ (shown-fits (s .args .x) (s .pre .4)))
 
 pub put-spec : {M : Type 1} → statement M
 put-spec =

@@ -8,22 +8,22 @@ use Rattle.closure.proofs.write.Statement.{statement}
 use Rattle.closure.proofs.write.Tie as tie
 
 abbrev Inv-loop : tie.InvT-loop
-Inv-loop n out₀ w i₀ out i = (i ≤ n + 1) × Writing n (entry w) out₀ out i
+Inv-loop w n out₀ i₀ out i = (i ≤ n + 1) × Writing n (entry w) out₀ out i
 
 abbrev μ-loop : tie.MeasureT-loop
-μ-loop n out₀ w i₀ out i = n + 1 - i
+μ-loop w n out₀ i₀ out i = n + 1 - i
 
 loop-holds : tie.Need-loop-holds Inv-loop μ-loop
 loop-holds c = (omega arith, writing-none)
 
 write-row-requires : tie.Need-write-row-requires Inv-loop μ-loop
 write-row-requires c κs =
-    let a = c .before .before .before in
+    let a = c .before .before in
     ((omega arith, omega (arith, a .loop .inv .1 .long), omega arith), a .before .pre .1)
 
 loop-again : tie.Need-loop-again Inv-loop μ-loop
 loop-again c =
-    let a = c .before .before .before .before .before in
+    let a = c .before .before .before .before in
     (omega arith, writing-more (omega arith) (a .loop .inv .1) (c .before .write-row .ensures))
 
 same-length : tie.Need-same-length Inv-loop μ-loop

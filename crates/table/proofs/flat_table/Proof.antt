@@ -4,11 +4,13 @@ use mathlib.Core.Bool.{true, false}
 use mathlib.Core.List.{List}
 use native.Mathlib.Omega.{arith}
 use borrow.Author.Needs.{needs}
+use borrow.Author.Tests.{not-true, not-false}
 use lib.ListN.{length}
-use Rattle.temporal.specs.Ticket.{Rule}
+use Rattle.temporal.specs.Ticket.{Rule, events}
+use Rattle.temporal.specs.Distance.{distance}
 use Rattle.temporal.specs.Run.{Valid}
 use Rattle.temporal.specs.Table.{ticketOf, rulesCause}
-use Rattle.temporal.specs.TableCauses.{cause-room, cause-horizon, cause-events, cause-count, cause-rules, cause-last, rules-valid, ticket-valid, refuses, accepts}
+use Rattle.temporal.specs.TableCauses.{ticket-events, cause-room, cause-horizon, cause-events, cause-count, cause-rules, cause-last, rules-valid, ticket-valid, refuses, accepts}
 use Rattle.closure.specs.Matrix.{entry, Everywhere}
 use Rattle.closure.specs.Start.{start}
 use Rattle.table.specs.Lent.{rulesOf}
@@ -40,7 +42,11 @@ valid c =
 -- the first entries
 same : (c : tie.After-ruled) → let s = asked (c .before) in
     Everywhere (s .args .events) (λ i j. entry (c .ruled .result) i j ≡ start (s .args .horizon) (held s) i j)
-same c i j li lj = c .ruled .ensures i j (omega arith) (omega arith)
+same c i j li lj = c .ruled .ensures .1 i j (omega arith) (omega arith)
+
+-- the ticket has so many events
+count : (c : tie.After-ruled) → let s = asked (c .before) in events (ticketOf (s .args .horizon) (s .args .events) (held s)) ≡ s .args .events
+count c = let s = asked (c .before) in ticket-events (s .args .horizon) (s .args .events) (held s)
 
 returns : tie.Need-returns
 returns c = λ rs long eq. refuses _ _ rs _ 10 (cause-room _ _ rs _ (c .if1 .taken)) (omega arith)
@@ -75,40 +81,42 @@ ruled-requires c κs =
 
 closure-requires : tie.Need-closure-requires
 closure-requires c κs =
-    let v = valid (c .before) in
-    (omega arith, (start-floors _ _ _ v _ (same c), start-top _ _ _ v _ (same c)))
-
-write-requires : tie.Need-write-requires
-write-requires c κs =
-    let t : tie.Then6 = search needs in
     let r : tie.After-ruled = search needs in
-    ((omega arith, omega arith), closed-small _ _ _ (valid (r .before)) _ (same r) _ (t .before .closure .ensures) (t .if6 .taken))
-
-same-length : tie.Need-same-length
-same-length c = search needs
+    let v = valid (r .before) in
+    ((omega arith, r .ruled .ensures .0), (start-floors _ v _ (count r) _ (same r), start-top _ v _ (count r) _ (same r)))
 
 returns-6 : tie.Need-returns-6
 returns-6 c = λ rs long eq.
     let r : tie.After-ruled = search needs in
     let s : tie.Start = search needs in
     let v = valid (r .before) in
-    let t : tie.Then6 = search needs in
-    let closed = t .before .closure .ensures in
-    let yes = t .if6 .taken in
-    let none = cause-last (s .args .horizon) (s .args .events) (held s) (length (s .args .out .now)) (omega arith) (omega arith) (omega arith) (omega (arith, held-length s)) true
-    (passed (r .before)) (closed-consistent _ _ _ v _ (same r) _ closed yes) in
-    let full = written-filled (s .args .events) (ticketOf (s .args .horizon) (s .args .events) (held s)) _ (s .args .out .now) _ (omega arith) (omega arith)
-    (closed-distance _ _ _ v _ (same r) _ closed yes) (c .before .write .ensures) in
-    rw (← (eq (omega arith)), full) (accepts (s .args .horizon) (s .args .events) (held s) (s .args .out .now) none)
+    let none = cause-last (s .args .horizon) (s .args .events) (held s) (length (s .args .out .now)) (omega arith) (omega arith) (omega arith) (omega (arith, held-length s)) false
+    (passed (r .before)) (closed-none _ v _ (count r) _ (same r) _ (c .before .closure .ensures) (not-true _ (c .if6 .taken))) in
+    rw (← (eq (omega arith))) (refuses (s .args .horizon) (s .args .events) (held s) (s .args .out .now) 9 none (omega arith))
+
+write-requires : tie.Need-write-requires
+write-requires c κs =
+    let t : tie.Else6 = search needs in
+    let r : tie.After-ruled = search needs in
+    let small = closed-small _ (valid (r .before)) _ (count r) _ (same r) _ (t .before .closure .ensures) (not-false _ (t .if6 .left)) in
+    ((omega arith, omega arith), λ i j li lj some. omega (arith, small i j li lj))
+
+same-length : tie.Need-same-length
+same-length c = search needs
 
 returns-7 : tie.Need-returns-7
 returns-7 c = λ rs long eq.
     let r : tie.After-ruled = search needs in
     let s : tie.Start = search needs in
     let v = valid (r .before) in
-    let none = cause-last (s .args .horizon) (s .args .events) (held s) (length (s .args .out .now)) (omega arith) (omega arith) (omega arith) (omega (arith, held-length s)) false
-    (passed (r .before)) (closed-none _ _ _ v _ (same r) _ (c .before .closure .ensures) (c .if6 .left)) in
-    rw (← (eq (omega arith))) (refuses (s .args .horizon) (s .args .events) (held s) (s .args .out .now) 9 none (omega arith))
+    let t : tie.Else6 = search needs in
+    let closed = t .before .closure .ensures in
+    let yes = not-false _ (t .if6 .left) in
+    let none = cause-last (s .args .horizon) (s .args .events) (held s) (length (s .args .out .now)) (omega arith) (omega arith) (omega arith) (omega (arith, held-length s)) true
+    (passed (r .before)) (closed-consistent _ v _ (count r) _ (same r) _ closed yes) in
+    let full = written-filled (s .args .events) (distance (ticketOf (s .args .horizon) (s .args .events) (held s))) _ (s .args .out .now) _ (omega arith) (omega arith)
+    (closed-distance _ v _ (count r) _ (same r) _ closed yes) (c .before .write .ensures) in
+    rw (← (eq (omega arith)), full) (accepts (s .args .horizon) (s .args .events) (held s) (s .args .out .now) none)
 
 pub flat-table-spec : {M : Type 1} → statement M
 flat-table-spec =
@@ -122,7 +130,7 @@ flat-table-spec =
     returns-5
     ruled-requires
     closure-requires
+    returns-6
     write-requires
     same-length
-    returns-6
     returns-7)

@@ -1,14 +1,15 @@
--- `relax` meets its contract. The rows below i but for the row k are done. Assumes nothing.
+-- `stop` meets its contract. The rows below i but for the row k are done. Assumes nothing.
 use Prim.Native.Nat.{_+_, _-_, _≤_}
 use mathlib.Core.Path.{_≡_}
 use mathlib.Core.Logic.{⊎-elim}
 use native.Mathlib.Omega.{arith}
 use borrow.Author.Needs.{needs}
 use lib.ListN.{length}
-use Rattle.closure.specs.Matrix.{entry}
+use Rattle.closure.specs.Matrix.{entry, relax, Everywhere}
+use Rattle.closure.specs.ShortestPaths.{stop-carried}
 use Rattle.closure.specs.Rows.{RowsRelaxed, rows-none, rows-stored, rows-more, rows-skip, stop-stored, rows-all}
-use Rattle.closure.proofs.relax.Statement.{statement}
-use Rattle.closure.proofs.relax.Tie as tie
+use Rattle.closure.proofs.stop.Statement.{statement}
+use Rattle.closure.proofs.stop.Tie as tie
 
 abbrev Inv-loop : tie.InvT-loop
 Inv-loop w₀ n k i₀ w i = (i ≤ n + 1) × (length w ≡ 1681) × RowsRelaxed n k i (entry w₀) (entry w)
@@ -45,10 +46,14 @@ relax-row-requires-2 c κs =
 returns : tie.Need-returns Inv-loop μ-loop
 returns c =
     let a = c .before .before .before in
-    (c .relax-row2 .ensures .0, rows-all (omega arith) (a .loop .inv .2) (omega arith) (c .relax-row2 .ensures .1))
+    let args = a .before .args in
+    let old = entry (args .w .now) in
+    let new = entry (c .relax-row2 .last .0) in
+    let next : Everywhere (args .n) (λ i j. new i j ≡ relax old (args .k) i j) = rows-all (omega arith) (a .loop .inv .2) (omega arith) (c .relax-row2 .ensures .1) in
+    (c .relax-row2 .ensures .0, (next, stop-carried (args .n) (args .k) (omega arith) old new next))
 
-pub relax-spec : {M : Type 1} → statement M
-relax-spec =
+pub stop-spec : {M : Type 1} → statement M
+stop-spec =
     tie.close
     (tie.spec
     Inv-loop
