@@ -1,13 +1,19 @@
 # make           the library and the program, proved and built
 # make plan      the plan of $(TICKET), a ticket as text
 # make latest    its latest plan
-# make table     its table of distances, with the names of its events
+# make table     its table of distances, with the names of its events; with STOPS=1 the table before the first
+#                stop and after each, from the last event back to the first and then the start
 # make reason    why no times keep its rules, with the names of its events and of the devices in $(ROSTER)
 # make install   the header, the library and the pkg-config file, under $(PREFIX)
 PREFIX = /usr/local
 TICKET = examples/tickets/p1.txt
 ROSTER = examples/roster.names
+STOPS =
 ARCHIVE = target/staticlib/libbeyunlak.a
+
+ifneq ($(filter-out 1,$(STOPS)),)
+$(error STOPS=$(STOPS): it is 1 or left out)
+endif
 
 all: library program
 
@@ -28,7 +34,7 @@ latest: program
 table: library
 	$(CC) -std=c99 -O2 -Iinclude examples/table.c $(ARCHIVE) -o target/table
 	tools/ticket encode $(TICKET) target/ticket
-	target/table <target/ticket | tools/ticket table $(TICKET)
+	target/table $(if $(STOPS),stops )<target/ticket | tools/ticket $(if $(STOPS),stops,table) $(TICKET)
 
 # without a TICKET one that has no schedule
 reason: TICKET = examples/tickets/p6-impossible.txt

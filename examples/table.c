@@ -1,9 +1,12 @@
 /* The table of distances of a ticket: reads the ticket's bytes from standard input and prints the table row by row,
- * or "refused" and the number. Bytes that break the layout are refused as beyunlak_plan refuses them.
+ * or "refused" and the number. Bytes that break the layout are refused as beyunlak_plan refuses them. With the word
+ * `stops` it prints the working tables, before the first stop and after each: a line with the number of stops, then
+ * the rows, with "none" where there is no path yet.
  *
- *     cc -std=c99 -Iinclude examples/table.c target/staticlib/libbeyunlak.a -o table && ./table <TICKET
+ *     cc -std=c99 -Iinclude examples/table.c target/staticlib/libbeyunlak.a -o table && ./table [stops] <TICKET
  */
 #include <stdio.h>
+#include <string.h>
 
 #include "beyunlak.h"
 
@@ -28,12 +31,31 @@ static int refused(uint32_t answer)
     return 1;
 }
 
-int main(void)
+static void print(const int32_t *table, uint32_t n)
+{
+    for (uint32_t i = 0; i <= n; i++)
+        for (uint32_t j = 0; j <= n; j++) {
+            int32_t number = table[i * (n + 1) + j];
+            if (number == BEYUNLAK_NO_PATH)
+                printf("none");
+            else
+                printf("%d", (int)number);
+            putchar(j < n ? ' ' : '\n');
+        }
+}
+
+int main(int count, char **words)
 {
     static uint8_t ticket[BEYUNLAK_TICKET_MAX + 1];
     static uint8_t plan[BEYUNLAK_RECORD_MAX];
     static struct beyunlak_rule rules[BEYUNLAK_RULES_MAX];
     static int32_t table[BEYUNLAK_TABLE_MAX];
+
+    int each_stop = count == 2 && strcmp(words[1], "stops") == 0;
+    if (count > 1 && !each_stop) {
+        fprintf(stderr, "usage: table [stops] <TICKET\n");
+        return 2;
+    }
 
     /* A ticket that can be planned keeps the layout, so its fields stand where its counts say. */
     size_t length = fread(ticket, 1, sizeof ticket, stdin);
@@ -41,7 +63,19 @@ int main(void)
     if (answer != BEYUNLAK_ACCEPTED)
         return refused(answer);
 
-    uint32_t n = get(ticket + 4, 2), m = get(ticket + 6 + n, 2);
+    uint32_t n = get(ticket + 4, 2);
+    if (each_stop) {
+        for (uint32_t stops = 0; stops <= n + 1; stops++) {
+            answer = beyunlak_table_after(ticket, length, stops, table, BEYUNLAK_TABLE_MAX);
+            if (answer != BEYUNLAK_ACCEPTED)
+                return refused(answer);
+            printf("stops %u\n", (unsigned)stops);
+            print(table, n);
+        }
+        return 0;
+    }
+
+    uint32_t m = get(ticket + 6 + n, 2);
     for (uint32_t k = 0; k < m; k++) {
         const uint8_t *rule = ticket + BEYUNLAK_TICKET_LENGTH(n, k);
         rules[k].from = rule[0];
@@ -51,9 +85,6 @@ int main(void)
     answer = beyunlak_table(get(ticket, 4), n, rules, m, table, BEYUNLAK_TABLE_MAX);
     if (answer != BEYUNLAK_ACCEPTED)
         return refused(answer);
-
-    for (uint32_t i = 0; i <= n; i++)
-        for (uint32_t j = 0; j <= n; j++)
-            printf("%d%c", (int)table[i * (n + 1) + j], j < n ? ' ' : '\n');
+    print(table, n);
     return 0;
 }

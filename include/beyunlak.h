@@ -5,7 +5,8 @@
  * points. beyunlak_plan gives every event a window, so that each device may pick any tick of its own window
  * without asking the others and no rule is broken; beyunlak_plan_latest does so as late as can be.
  * beyunlak_commit fixes one event's window and widens the others as far as that allows. beyunlak_table tells
- * how far apart in time any two points can be. beyunlak_reason tells in words why no times keep all rules.
+ * how far apart in time any two points can be, and beyunlak_table_after what stands in its table on the way
+ * there, stop by stop. beyunlak_reason tells in words why no times keep all rules.
  *
  * Link with libbeyunlak.a. It needs no other library, keeps nothing between two calls, allocates nothing
  * and makes no system call.
@@ -14,7 +15,8 @@
  *   A tick is a tenth of a second. Point 0 is the start of the session, at tick 0. Points 1 to n are the
  *   events. Every event lies between tick 0 and the horizon, without a rule that says so.
  *
- * A TICKET, the input of both plans and of a reason. Numbers are unsigned and little-endian unless noted.
+ * A TICKET, the input of both plans, of a working table and of a reason. Numbers are unsigned and little-endian
+ *   unless noted.
  *     offset       bytes  field
  *     0            4      horizon, 0 to 1,000,000
  *     4            2      n, the number of events, 0 to 40
@@ -45,6 +47,21 @@
  *   D(i, j) stands at place i * (n + 1) + j. D(i, j) is the largest time of j minus time of i, over all times
  *   that keep the rules: the latest time of event i is D(0, i), its earliest -D(i, 0). D(i, i) is 0, and every
  *   number lies in -horizon to horizon.
+ *
+ * A WORKING TABLE, the output of beyunlak_table_after: numbers in the places of a table, as they are after
+ *   some stops. The points are taken as stops in the order n, n - 1, .., 1, 0: the last event first, the start
+ *   of the session last.
+ *   A path from i to j is a list of rules in which the first goes from i, each other one from the point that
+ *   the one before it goes to, and the last to j. Its inner points are those that its rules go to, but for the
+ *   last rule's. What holds without a rule counts as rules too: for each event i "from i to 0, bound 0" and
+ *   "from 0 to i, bound horizon". The list of no rules is a path from each point to itself.
+ *   After k stops the number (i, j) is the least sum of bounds over the paths from i to j whose inner points
+ *   are all among the first k stops, or BEYUNLAK_NO_PATH where there is no such path. Before the first stop it
+ *   is the least bound of a rule from i to j, and after n + 1 stops it is D(i, j). The number (i, i) is 0 all
+ *   the way, and every number but BEYUNLAK_NO_PATH lies in -horizon to 41,000,000. The horizon 9, two events
+ *   and the rule from 1 to 2 with bound 4 give, row by row,
+ *     0 9 9   0 0 4   0 BEYUNLAK_NO_PATH 0   after 0, 1 and 2 stops
+ *     0 9 9   0 0 4   0 9 0                  after 3
  *
  * A LIST OF NAMES, an input of beyunlak_reason: the labels, a name for each of the n events in their order, or
  *   the roster, a name for each of the five devices in the order of enum beyunlak_owner.
@@ -134,6 +151,9 @@ extern "C" {
  * under that the answer is BEYUNLAK_SHORT. */
 #define BEYUNLAK_TABLE_MAX 1681
 
+/* In a working table: there is no path yet. It is above every sum. */
+#define BEYUNLAK_NO_PATH INT32_MAX
+
 /* The least size of a reason's output, in bytes, also for a short text: under that the answer is
  * BEYUNLAK_SHORT. No text is longer. */
 #define BEYUNLAK_REASON_MAX 2200
@@ -162,8 +182,8 @@ struct beyunlak_rule {
 
 /* The answers. The output's length is tested first. Then the input is read field by field in the order of its
  * bytes, each field's presence before its value, and the first cause decides. Then come 9 for a ticket, and
- * 15, 11, 12, 13 in this order for a commitment. The orders of a table and of a reason stand at beyunlak_table
- * and beyunlak_reason. */
+ * 15, 11, 12, 13 in this order for a commitment. The orders of both tables and of a reason stand at
+ * beyunlak_table, beyunlak_table_after and beyunlak_reason. */
 enum beyunlak_answer {
     BEYUNLAK_ACCEPTED = 0,
     BEYUNLAK_CUT = 1,        /* the bytes end inside a field */
@@ -174,7 +194,7 @@ enum beyunlak_answer {
     BEYUNLAK_POINTS = 6,     /* a point of a rule is above n, or both are the same */
     BEYUNLAK_BOUND = 7,      /* a bound is below -1,000,000 or above 1,000,000 */
     BEYUNLAK_TRAILING = 8,   /* bytes follow the end of the ticket or record */
-    BEYUNLAK_IMPOSSIBLE = 9, /* no times keep all rules (planning and the table) */
+    BEYUNLAK_IMPOSSIBLE = 9, /* no times keep all rules (planning and both tables) */
     BEYUNLAK_SHORT = 10,     /* the output is shorter than BEYUNLAK_RECORD_MAX, _TABLE_MAX or _REASON_MAX */
     BEYUNLAK_EVENT = 11,     /* a commitment to event 0 or to one above n */
     BEYUNLAK_COMMITTED = 12, /* the event is committed already */
@@ -217,6 +237,16 @@ uint32_t beyunlak_commit(const uint8_t *record, size_t record_len, uint32_t even
  */
 uint32_t beyunlak_table(uint32_t horizon, uint32_t events, const struct beyunlak_rule *rules, size_t rules_len,
                         int32_t *out, size_t out_len);
+
+/*
+ * The working table of a ticket after `stops` stops. More than n + 1 count as n + 1, after which the output is
+ * that of beyunlak_table for the ticket's horizon, events and rules. out_len counts numbers, not bytes.
+ * examples/table.c is a whole program.
+ * Answers 0, or the first of these that applies, whatever `stops` is: 10 (`out` is shorter than
+ * BEYUNLAK_TABLE_MAX), 1 to 8 (the ticket, as in beyunlak_plan), 9.
+ */
+uint32_t beyunlak_table_after(const uint8_t *ticket, size_t ticket_len, uint32_t stops, int32_t *out,
+                              size_t out_len);
 
 /*
  * The reason why no times keep all rules of a ticket that beyunlak_plan refuses with 9: a text at the start of

@@ -1,5 +1,5 @@
 /* The header against the library: every answer under its name, the lengths, what is left in the output, the
- * examples of latest plans and commitments, the table, and reasons. Prints a line a check, "ok NAME" or "FAILED NAME". */
+ * examples of latest plans and commitments, both tables, and reasons. Prints a line a check, "ok NAME" or "FAILED NAME". */
 #include <stdio.h>
 #include <stdlib.h>
 #include <string.h>
@@ -285,6 +285,10 @@ static void longest(void)
 
 static int32_t table[BEYUNLAK_TABLE_MAX + 9];
 
+/* Whether the working table is asked for, and after how many stops. */
+static int working;
+static uint32_t stops;
+
 static const struct beyunlak_rule trains_rules[] = {{0, 1, 15}, {1, 0, -5}, {0, 2, 20},
                                                     {2, 0, -8}, {1, 2, 4},  {2, 1, 2}};
 
@@ -293,11 +297,24 @@ static int32_t pattern(size_t i)
     return (int32_t)(i * 77777) - 12345678;
 }
 
-static uint32_t ask(uint32_t horizon, uint32_t events, const struct beyunlak_rule *rules, size_t count,
-                    size_t out_len)
+static void holding(void)
 {
     for (size_t i = 0; i < sizeof table / sizeof *table; i++)
         table[i] = pattern(i);
+}
+
+static uint32_t ask(uint32_t horizon, uint32_t events, const struct beyunlak_rule *rules, size_t count,
+                    size_t out_len)
+{
+    holding();
+    if (working) {
+        start(horizon, events);
+        owners(events, BEYUNLAK_STAGE);
+        put((uint32_t)count, 2);
+        for (size_t i = 0; i < count; i++)
+            rule(rules[i].from, rules[i].to, rules[i].bound);
+        return beyunlak_table_after(in, in_len, stops, table, out_len);
+    }
     return beyunlak_table(horizon, events, rules, count, table, out_len);
 }
 
@@ -364,6 +381,141 @@ static void tables(void)
         for (size_t j = 0; j <= BEYUNLAK_EVENTS_MAX; j++)
             largest[41 * i + j] = (int32_t)(j >= i ? j - i : j);
     check("largest table", answer == BEYUNLAK_ACCEPTED && holds(largest, BEYUNLAK_TABLE_MAX));
+}
+
+/* A working table is refused as the table is, after no stop, some and more than all; after all stops it is the table. */
+static void answers_after_stops(void)
+{
+    working = 1;
+    stops = 0;
+    of = "after no stop: ";
+    table_answers();
+    stops = 1;
+    of = "after 1 stop: ";
+    table_answers();
+    stops = BEYUNLAK_EVENTS_MAX + 1;
+    of = "after 41 stops: ";
+    table_answers();
+    tables();
+    stops = UINT32_MAX;
+    of = "after 4294967295 stops: ";
+    table_answers();
+    tables();
+    of = "";
+}
+
+/* What only bytes can be refused for. */
+static void bytes_after_stops(void)
+{
+    for (stops = 0; stops <= 4; stops += 2) {
+        const size_t length = BEYUNLAK_TICKET_LENGTH(2, 6);
+        uint32_t answer = ask(20, 2, trains_rules, 6, BEYUNLAK_TABLE_MAX);
+        check("a ticket's table", answer == BEYUNLAK_ACCEPTED && in_len == length);
+        int cut = 1;
+        for (size_t i = 0; i < length; i++) {
+            holding();
+            cut = cut && beyunlak_table_after(in, i, stops, table, BEYUNLAK_TABLE_MAX) == BEYUNLAK_CUT && holds(NULL, 0);
+        }
+        check("1 wherever the bytes end", cut);
+        holding();
+        no_table("8", beyunlak_table_after(in, length + 1, stops, table, BEYUNLAK_TABLE_MAX), BEYUNLAK_TRAILING);
+        in[7] = BEYUNLAK_DATABASE + 1;
+        holding();
+        no_table("4", beyunlak_table_after(in, length, stops, table, BEYUNLAK_TABLE_MAX), BEYUNLAK_OWNER);
+        holding();
+        no_table("10 before 4", beyunlak_table_after(in, length, stops, table, BEYUNLAK_TABLE_MAX - 1), BEYUNLAK_SHORT);
+    }
+}
+
+/* The tables of a session after 0, 1, .. and all stops stand in `wanted`; after more than all it is the last of them. */
+static void works(const char *name, uint32_t horizon, uint32_t events, const struct beyunlak_rule *rules,
+                  size_t count, const int32_t *wanted)
+{
+    const uint32_t all = events + 1, more[] = {all + 1, 256, 65536, UINT32_MAX};
+    const size_t numbers = (size_t)all * all;
+    char text[80];
+    for (uint32_t k = 0; k <= all + 4; k++) {
+        stops = k <= all ? k : more[k - all - 1];
+        uint32_t answer = ask(horizon, events, rules, count, BEYUNLAK_TABLE_MAX);
+        sprintf(text, "%s after %u stops", name, (unsigned)stops);
+        check(text, answer == BEYUNLAK_ACCEPTED && holds(wanted + numbers * (k < all ? k : all), numbers));
+    }
+}
+
+#define NONE BEYUNLAK_NO_PATH
+
+static void working_tables(void)
+{
+    const int32_t p1[] = {0, 15, 20, -5, 0, 4, -8, 2, 0,  0, 15, 20, -5, 0, 4, -8, 2, 0,
+                          0, 15, 19, -5, 0, 4, -8, 2, 0,  0, 15, 19, -5, 0, 4, -8, 2, 0};
+    const struct beyunlak_rule moves_rules[] = {{1, 2, 0}, {2, 3, 0}};
+    const int32_t p4[] = {0, 5, 5, 5, 0, 0, 0, NONE, 0, NONE, 0, 0, 0, NONE, NONE, 0,
+                          0, 5, 5, 5, 0, 0, 0, NONE, 0, NONE, 0, 0, 0, NONE, NONE, 0,
+                          0, 5, 5, 5, 0, 0, 0, 0,    0, NONE, 0, 0, 0, NONE, NONE, 0,
+                          0, 5, 5, 5, 0, 0, 0, 0,    0, NONE, 0, 0, 0, NONE, NONE, 0,
+                          0, 5, 5, 5, 0, 0, 0, 0,    0, 5,    0, 0, 0, 5,    5,    0};
+    const struct beyunlak_rule header_rules[] = {{1, 2, 4}};
+    const int32_t header[] = {0, 9, 9, 0, 0, 4, 0, NONE, 0,  0, 9, 9, 0, 0, 4, 0, NONE, 0,
+                              0, 9, 9, 0, 0, 4, 0, NONE, 0,  0, 9, 9, 0, 0, 4, 0, 9,    0};
+    /* a number comes with each of the events: 15 by event 3, 8 by 2, 13 and -1 by 1 */
+    const struct beyunlak_rule each_rules[] = {{1, 3, 10}, {3, 2, 5}, {2, 1, 3}, {1, 0, -4}};
+    const int32_t each[] = {0, 100, 100, 100, -4, 0, NONE, 10, 0,  3, 0, NONE, 0, NONE, 5, 0,
+                            0, 100, 100, 100, -4, 0, 15,   10, 0,  3, 0, NONE, 0, NONE, 5, 0,
+                            0, 100, 100, 100, -4, 0, 15,   10, 0,  3, 0, NONE, 0, 8,    5, 0,
+                            0, 100, 100, 100, -4, 0, 15,   10, -1, 3, 0, 13,   0, 8,    5, 0,
+                            0, 100, 100, 100, -4, 0, 15,   10, -1, 3, 0, 13,   0, 8,    5, 0};
+    /* of several rules the least bound counts, of unwritten ones too; one above the horizon stands until the start is a stop */
+    const struct beyunlak_rule loose_rules[] = {{0, 1, 25}, {1, 0, 5}, {1, 2, 60}, {1, 2, 50}, {2, 1, 30}};
+    const int32_t loose[] = {0, 20, 20, 0, 0, 50, 0, 30, 0,  0, 20, 20, 0, 0, 50, 0, 30, 0,
+                             0, 20, 20, 0, 0, 50, 0, 30, 0,  0, 20, 20, 0, 0, 20, 0, 20, 0};
+    const struct beyunlak_rule last_rules[] = {{1, 0, -BEYUNLAK_BOUND_MAX}};
+    const int32_t last[] = {0, 1000000, -1000000, 0,  0, 1000000, -1000000, 0,  0, 1000000, -1000000, 0};
+    const int32_t no_events[] = {0, 0};
+    works("P1", 20, 2, trains_rules, 6, p1);
+    works("P4", 5, 3, moves_rules, 2, p4);
+    works("the header's example", 9, 2, header_rules, 1, header);
+    works("a number with each event", 100, 3, each_rules, 4, each);
+    works("bounds above the horizon", 20, 2, loose_rules, 5, loose);
+    works("the least bound", BEYUNLAK_HORIZON_MAX, 1, last_rules, 1, last);
+    works("no events", 0, 0, trains_rules, 0, no_events);
+}
+
+/* A ring through all events that cannot be kept is 9 before any of them is a stop; one that can has its table. */
+static void ring_after_stops(void)
+{
+    struct beyunlak_rule ring[] = {{1, 2, 5}, {2, 3, -7}, {3, 1, 1}};
+    for (stops = 0; stops <= 5; stops++)
+        no_table("9 after any number of stops", ask(20, 3, ring, 3, BEYUNLAK_TABLE_MAX), BEYUNLAK_IMPOSSIBLE);
+    ring[2].bound = 2;
+    stops = 2;
+    const int32_t wanted[] = {0, 15, 20, 13, -2, 0, 5, -2, -7, -5, 0, -7, 0, 2, NONE, 0};
+    uint32_t answer = ask(20, 3, ring, 3, BEYUNLAK_TABLE_MAX);
+    check("a ring of sum 0 after 2 stops", answer == BEYUNLAK_ACCEPTED && holds(wanted, 16));
+}
+
+/* A chain of all points by the largest bounds: after k stops its part from the event before them on is joined. */
+static void longest_path(void)
+{
+    static struct beyunlak_rule chain[BEYUNLAK_EVENTS_MAX];
+    static int32_t wanted[BEYUNLAK_TABLE_MAX];
+    const uint32_t n = BEYUNLAK_EVENTS_MAX, most = BEYUNLAK_BOUND_MAX;
+    char text[80];
+    for (uint32_t i = 0; i < n; i++) {
+        chain[i].from = (uint8_t)i;
+        chain[i].to = (uint8_t)(i + 1);
+        chain[i].bound = (int32_t)most;
+    }
+    for (stops = 0; stops <= n + 1; stops++) {
+        for (uint32_t i = 0; i <= n; i++)
+            for (uint32_t j = 0; j <= n; j++) {
+                int joined = i < j && (j == i + 1 || i + stops >= n);
+                int32_t between = joined ? (int32_t)((j - i) * most) : NONE;
+                wanted[(n + 1) * i + j] = i == j || j == 0 ? 0 : i == 0 || stops > n ? (int32_t)most : between;
+            }
+        uint32_t answer = ask(BEYUNLAK_HORIZON_MAX, n, chain, n, BEYUNLAK_TABLE_MAX);
+        sprintf(text, "the longest chain after %u stops", (unsigned)stops);
+        check(text, answer == BEYUNLAK_ACCEPTED && holds(wanted, BEYUNLAK_TABLE_MAX));
+    }
 }
 
 /* ---- reasons */
@@ -618,6 +770,11 @@ int main(void)
     layout();
     table_answers();
     tables();
+    answers_after_stops();
+    bytes_after_stops();
+    working_tables();
+    ring_after_stops();
+    longest_path();
     reasons_of_tickets();
     reasons_of_lists();
     reasons();

@@ -162,19 +162,56 @@ same 'explain a latest plan' "$work/wanted" "$work/got"
 "$planner" <examples/tickets/p9.ticket | tools/ticket explain >"$work/got" 2>"$work/errors"
 if [ $? -eq 1 ] && grep -q '^refused 1: the bytes end inside a field' "$work/errors"; then pass; else fail 'explain a refusal'; fi
 
-# tells NAME TEXT ROWS WANTED: the table with names, or the reason on standard error; / stands for a line end
+# tells COMMAND NAME TEXT LINES WANTED STATUS: a program's lines with names, or why they are refused; / stands for a line end
 tells() {
-    printf '%s\n' "$3" | tr '/' '\n' | tools/ticket table "$2" >"$work/got" 2>&1
-    printf '%s\n' "$4" | tr '/' '\n' >"$work/wanted"
-    same "$1" "$work/wanted" "$work/got"
+    printf '%s\n' "$4" | tr '/' '\n' | tools/ticket "$1" "$3" >"$work/got" 2>&1
+    good $(($? != $6)) "$1, $2: exit status"
+    printf '%s\n' "$5" | tr '/' '\n' >"$work/wanted"
+    same "$1, $2" "$work/wanted" "$work/got"
 }
 p1=examples/tickets/p1.txt
-tells 'table of P1' $p1 '0 15 19/-5 0 4/-8 2 0' \
-    '        start shutter flash/start       0      15    19/shutter    -5       0     4/flash      -8       2     0'
-tells 'table of no events' examples/tickets/p8.txt '0' '      start/start     0'
-tells 'a refused table' $p1 'refused 9' 'refused 9: no times keep all rules'
-tells 'a table with a row missing' $p1 '0 15 19/-5 0 4' 'this is no table of 3 points'
-tells 'a table with a word in it' $p1 '0 15 19/-5 x 4/-8 2 0' 'this is no table of 3 points'
+p4=examples/tickets/p4.txt
+p1_told='        start shutter flash/start       0      15    19/shutter    -5       0     4/flash      -8       2     0'
+no_table='this is no table of 3 points'
+tells table 'P1' $p1 '0 15 19/-5 0 4/-8 2 0' "$p1_told" 0
+tells table 'no events' examples/tickets/p8.txt '0' '      start/start     0' 0
+tells table 'refused' $p1 'refused 9' 'refused 9: no times keep all rules' 1
+tells table 'a row missing' $p1 '0 15 19/-5 0 4' "$no_table" 1
+tells table 'a word in it' $p1 '0 15 19/-5 x 4/-8 2 0' "$no_table" 1
+tells table 'no path' $p1 '0 15 19/-5 0 4/-8 none 0' "$no_table" 1
+
+# the working tables before the first stop and after each, worked by hand from the header
+p1_first='0 15 20/-5 0 4/-8 2 0'
+p1_stops="stops 0/$p1_first/stops 1/$p1_first/stops 2/0 15 19/-5 0 4/-8 2 0/stops 3/0 15 19/-5 0 4/-8 2 0"
+p1_begun="$(echo "$p1_told" | sed 's/19/20/')"
+p1_stops_told="before the first stop/$p1_begun/after flash/$p1_begun/after shutter/$p1_told/after start/$p1_told"
+p4_names='      start move1 move2 move3/start     0     5     5     5'
+p4_first='0 5 5 5/0 0 0 none/0 none 0 0/0 none none 0'
+p4_later='0 5 5 5/0 0 0 0/0 none 0 0/0 none none 0'
+p4_stops="stops 0/$p4_first/stops 1/$p4_first/stops 2/$p4_later/stops 3/$p4_later/stops 4/0 5 5 5/0 0 0 0/0 5 0 0/0 5 5 0"
+p4_begun="$p4_names/move1     0     0     0  none/move2     0  none     0     0/move3     0  none  none     0"
+p4_joined="$p4_names/move1     0     0     0     0/move2     0  none     0     0/move3     0  none  none     0"
+p4_told="$p4_names/move1     0     0     0     0/move2     0     5     0     0/move3     0     5     5     0"
+p4_ending="after move1/$p4_joined/after start/$p4_told"
+p4_stops_told="before the first stop/$p4_begun/after move3/$p4_begun/after move2/$p4_joined/$p4_ending"
+no_stops='these are not the tables of 3 points before the first stop and after each'
+tells stops 'P1' $p1 "$p1_stops" "$p1_stops_told" 0
+tells stops 'P4' $p4 "$p4_stops" "$p4_stops_told" 0
+tells stops 'no events' examples/tickets/p8.txt 'stops 0/0/stops 1/0' 'before the first stop/      start/start     0/after start/      start/start     0' 0
+tells stops 'refused' $p1 'refused 9' 'refused 9: no times keep all rules' 1
+tells stops 'nothing' $p1 '' "$no_stops" 1
+tells stops 'a table' $p1 '0 15 19/-5 0 4/-8 2 0' "$no_stops" 1
+tells stops 'a table missing' $p1 "${p1_stops%/stops 3/*}" "$no_stops" 1
+tells stops 'a row missing' $p1 "${p1_stops%/*}" "$no_stops" 1
+tells stops 'a row too many' $p1 "$p1_stops/-8 2 0" "$no_stops" 1
+tells stops 'a table too many' $p1 "$p1_stops/stops 4/$p1_first" "$no_stops" 1
+tells stops 'a number missing' $p1 "${p1_stops% *}" "$no_stops" 1
+tells stops 'a word in it' $p1 "$(echo "$p1_stops" | sed 's/20/nine/')" "$no_stops" 1
+tells stops 'stops in another order' $p1 "$(echo "$p1_stops" | sed 's/stops 1/stops 2/')" "$no_stops" 1
+tells stops 'tables of another ticket' $p1 "$p4_stops" "$no_stops" 1
+# a column is as wide in all tables
+tells stops 'wide numbers' examples/tickets/p7.txt 'stops 0/0 1/2 0/stops 1/0 1000000/-1000000 0/stops 2/0 none/-1 0' \
+    'before the first stop/         start    last/start        0       1/last         2       0/after last/         start    last/start        0 1000000/last  -1000000       0/after start/         start    last/start        0    none/last        -1       0' 0
 
 # ---- lists of names and reasons in the text tool
 
@@ -258,13 +295,6 @@ rm -f "$work/made" "$work/labels"
 tools/ticket encode "$work/text" "$work/made" "$work/labels" 2>"$work/errors"
 if [ $? -eq 1 ] && [ ! -e "$work/made" ] && [ ! -e "$work/labels" ] && grep -q "^$work/text:2: " "$work/errors"; then pass; else fail 'encode with labels refuses'; fi
 
-# gives NAME TEXT RING WANTED STATUS: the ring with names, or why it is refused; / stands for a line end
-gives() {
-    printf '%s\n' "$3" | tr '/' '\n' | tools/ticket reason "$2" >"$work/got" 2>&1
-    good $(($? != $5)) "$1: exit status"
-    printf '%s\n' "$4" | tr '/' '\n' >"$work/wanted"
-    same "$1" "$work/wanted" "$work/got"
-}
 # no_ring NAME TEXT RING: the lines are no ring of the text's rules
 no_ring() {
     printf '%s\n' "$3" | tr '/' '\n' | tools/ticket reason "$2" >"$work/got" 2>"$work/errors"
@@ -278,11 +308,11 @@ p7=examples/tickets/p7-impossible.txt
 p6_ring='at later stage/by 1 -1/at sooner stage/by 2 0'
 p6_told='at later stage/by 1 -1  # line 6: rule later to sooner: -1/at sooner stage/by 2 0   # line 7: rule sooner to later: 0/# the bounds sum to -1: these rules cannot all be kept'
 p7_told='at last stage/by 1 -11  # line 5: rule last to start: -11/at start/by 3 10   # every event lies at or before the horizon/# the bounds sum to -1: these rules cannot all be kept'
-gives 'reason of P6' $p6 "$p6_ring" "$p6_told" 0
-gives 'reason of P7' $p7 'at last stage/by 1 -11/at start/by 3 10' "$p7_told" 0
-gives 'reason under another roster' $p7 'at last table/by 1 -11/at start/by 3 10' "$(echo "$p7_told" | sed 's/stage/table/')" 0
-gives 'reason 17' $p6 'refused 17' 'refused 17: there are times that keep all rules, so the ticket can be planned' 1
-gives 'reason 16' $p6 'refused 16' 'refused 16: a list of names breaks its layout' 1
+tells reason 'P6' $p6 "$p6_ring" "$p6_told" 0
+tells reason 'P7' $p7 'at last stage/by 1 -11/at start/by 3 10' "$p7_told" 0
+tells reason 'another roster' $p7 'at last table/by 1 -11/at start/by 3 10' "$(echo "$p7_told" | sed 's/stage/table/')" 0
+tells reason '17' $p6 'refused 17' 'refused 17: there are times that keep all rules, so the ticket can be planned' 1
+tells reason '16' $p6 'refused 16' 'refused 16: a list of names breaks its layout' 1
 no_ring 'nothing' $p6 ''
 no_ring 'a line missing' $p6 'at later stage/by 1 -1/at sooner stage'
 no_ring 'a line too many' $p6 'at later stage/by 1 -1/at sooner stage/by 2 0/at later stage'
@@ -301,14 +331,14 @@ no_ring 'a plan' $p6 'plan 2 0/1 3 1 1/2 3 0 0'
 printf '%s\n' 'horizon 60s' 'event lamps-on lamps' 'event exposure camera' 'between lamps-on and exposure: 5s..20s' \
     'between start and exposure: ..4s' >"$work/my.txt"
 my_told='at exposure camera/by 2 -50  # line 4: rule exposure to lamps-on: -50/at lamps-on lamps/by 4 0    # every event lies at or after start/at start/by 3 40   # line 5: rule start to exposure: 40/# the bounds sum to -10: these rules cannot all be kept'
-gives 'reason with a made label' "$work/my.txt" 'at exposure camera/by 2 -50/at eventa lamps/by 4 0/at start/by 3 40' "$my_told" 0
+tells reason 'a made label' "$work/my.txt" 'at exposure camera/by 2 -50/at eventa lamps/by 4 0/at start/by 3 40' "$my_told" 0
 no_ring 'a name that is no label' "$work/my.txt" 'at exposure camera/by 2 -50/at lamps-on lamps/by 4 0/at start/by 3 40'
 
 for number in 16 17; do
     echo "refused $number" | tools/ticket explain >"$work/got" 2>"$work/errors"
     if [ $? -eq 1 ] && grep -q "^refused $number: ...*" "$work/errors" && [ ! -s "$work/got" ]; then pass; else fail "explain $number"; fi
 done
-for command in 'list' 'reason' 'names a b' 'encode a b c d' 'list a b c' 'reason a b c'; do
+for command in 'list' 'reason' 'table' 'stops' 'names a b' 'encode a b c d' 'list a b c' 'reason a b c' 'table a b c' 'stops a b c'; do
     # shellcheck disable=SC2086
     tools/ticket $command >"$work/got" 2>"$work/errors"
     if [ $? -eq 2 ] && [ ! -s "$work/got" ]; then pass; else fail "the wrong call '$command'"; fi
@@ -354,6 +384,36 @@ p7-impossible | refused 9
 p8 | 0
 p9 | refused 1
 TABLES
+    while IFS='|' read -r name wanted; do
+        "$work/table" stops <"examples/tickets/${name% }.ticket" >"$work/got"
+        status=$?
+        case $wanted in *refused*) status=$((status != 1)) ;; esac
+        good $status "tables of ${name% } after stops, with $compiler: exit status"
+        printf '%s\n' "${wanted# }" | tr '/' '\n' >"$work/wanted"
+        same "tables of ${name% } after stops, with $compiler" "$work/wanted" "$work/got"
+    done <<TABLES
+p1 | $p1_stops
+p4 | $p4_stops
+p7 | stops 0/0 10/-10 0/stops 1/0 10/-10 0/stops 2/0 10/-10 0
+p6-impossible | refused 9
+p7-impossible | refused 9
+p8 | stops 0/0/stops 1/0
+p9 | refused 1
+p10 | stops 0/0 5 5/0 0 none/0 none 0/stops 1/0 5 5/0 0 none/0 none 0/stops 2/0 5 5/0 0 none/0 none 0/stops 3/0 5 5/0 0 5/0 5 0
+TABLES
+    # the last of the session's eleven tables is its table
+    "$work/table" <examples/tickets/session.ticket >"$work/wanted"
+    "$work/table" stops <examples/tickets/session.ticket >"$work/stops"
+    tail -n 10 "$work/stops" >"$work/got"
+    same "the session's last table, with $compiler" "$work/wanted" "$work/got"
+    for words in stop Stops 'stops stops' 'stops 1' 1 -h; do
+        # shellcheck disable=SC2086
+        "$work/table" $words <examples/tickets/p1.ticket >"$work/got" 2>"$work/errors"
+        good $(($? != 2)) "table called with '$words', with $compiler: exit status"
+        echo 'usage: table [stops] <TICKET' >"$work/wanted"
+        same "table called with '$words', with $compiler" "$work/wanted" "$work/errors"
+        if [ -s "$work/got" ]; then fail "table called with '$words', with $compiler: wrote to standard output"; else pass; fi
+    done
     $compiler -std=c99 -Wall -Wextra -Werror -pedantic -Iinclude examples/reason.c "$library" -o "$work/reason"
     good $? "examples/reason.c with $compiler"
     while IFS='|' read -r number name wanted; do
@@ -383,6 +443,21 @@ int main() {
 HOST
 g++ -Wall -Wextra -Werror -pedantic -Iinclude "$work/host.cpp" "$library" -o "$work/cpp" && "$work/cpp"
 good $? 'beyunlak_reason in C++'
+
+cat >"$work/host.cpp" <<'HOST'
+#include "beyunlak.h"
+int main() {
+    const uint8_t ticket[] = {9, 0, 0, 0, 2, 0, BEYUNLAK_STAGE, BEYUNLAK_LAMPS, 1, 0, 1, 2, 4, 0, 0, 0};
+    const int32_t wanted[] = {0, 9, 9, 0, 0, 4, 0, BEYUNLAK_NO_PATH, 0};
+    static int32_t table[BEYUNLAK_TABLE_MAX];
+    const uint32_t answer = beyunlak_table_after(ticket, sizeof ticket, 2, table, BEYUNLAK_TABLE_MAX);
+    for (int i = 0; i < 9; i++)
+        if (table[i] != wanted[i]) return 1;
+    return answer == BEYUNLAK_ACCEPTED ? 0 : 1;
+}
+HOST
+g++ -Wall -Wextra -Werror -pedantic -Iinclude "$work/host.cpp" "$library" -o "$work/cpp" && "$work/cpp"
+good $? 'beyunlak_table_after in C++'
 
 # a ticket is refused with 9 exactly where it has a ring, and has a plan where the reason is 17
 while IFS='|' read -r number name wanted; do
@@ -419,33 +494,47 @@ for words in '' "$work/labels" "$work/none examples/roster.names" "$work/labels 
     if [ $? -eq 2 ] && [ ! -s "$work/got" ] && [ -s "$work/errors" ]; then pass; else fail "reason called with '$words'"; fi
 done
 
-# makes NAME WANTED STATUS WORD..: what `make reason` prints with these words, the library as it is; / stands for a line end
+# makes TARGET NAME WANTED STATUS WORD..: what make prints with these words, the library as it is; / stands for a line end
 mkdir -p target
 makes() {
-    name=$1 wanted=$2 status=$3
-    shift 3
+    target=$1 name=$2 wanted=$3 status=$4
+    shift 4
     printf '%s\n' "$wanted" | tr '/' '\n' >"$work/wanted"
-    make -s -o library reason ARCHIVE="$library" "$@" >"$work/got" 2>"$work/errors"
-    good $(($? != status)) "make reason, $name: exit status"
+    make -s -o library "$target" ARCHIVE="$library" "$@" >"$work/got" 2>"$work/errors"
+    good $(($? != status)) "make $target, $name: exit status"
     if [ "$status" -ne 0 ]; then grep -v '^make' "$work/errors" >"$work/got"; fi
-    same "make reason, $name" "$work/wanted" "$work/got"
+    same "make $target, $name" "$work/wanted" "$work/got"
 }
-makes 'no ticket named' "$p6_told" 0
-makes 'P6' "$p6_told" 0 TICKET=$p6
-makes 'P7' "$p7_told" 0 TICKET=$p7
-makes 'README' "$my_told" 0 TICKET="$work/my.txt"
+makes reason 'no ticket named' "$p6_told" 0
+makes reason 'P6' "$p6_told" 0 TICKET=$p6
+makes reason 'P7' "$p7_told" 0 TICKET=$p7
+makes reason 'README' "$my_told" 0 TICKET="$work/my.txt"
 echo a b c d e | tools/ticket list - "$work/roster"
-makes 'another roster' "$(echo "$p7_told" | sed 's/stage/d/')" 0 TICKET=$p7 ROSTER="$work/roster"
-makes 'P1' 'refused 17: there are times that keep all rules, so the ticket can be planned' 2 TICKET=$p1
-makes 'a wrong roster' 'refused 16: a list of names breaks its layout' 2 TICKET=$p7 ROSTER="$work/labels"
+makes reason 'another roster' "$(echo "$p7_told" | sed 's/stage/d/')" 0 TICKET=$p7 ROSTER="$work/roster"
+makes reason 'P1' 'refused 17: there are times that keep all rules, so the ticket can be planned' 2 TICKET=$p1
+makes reason 'a wrong roster' 'refused 16: a list of names breaks its layout' 2 TICKET=$p7 ROSTER="$work/labels"
+makes table 'no ticket named' "$p1_told" 0
+makes table 'P4' "$p4_told" 0 TICKET=$p4
+makes table 'P7 refused' 'refused 9: no times keep all rules' 2 TICKET=$p7
+makes table 'no ticket named, stops' "$p1_stops_told" 0 STOPS=1
+makes table 'P4, stops' "$p4_stops_told" 0 TICKET=$p4 STOPS=1
+makes table 'P7 refused, stops' 'refused 9: no times keep all rules' 2 TICKET=$p7 STOPS=1
+STOPS=1 makes table 'STOPS in the environment' "$p1_told" 0
+for word in 0 2 yes 11; do
+    make -s -o library table ARCHIVE="$library" STOPS=$word >"$work/got" 2>"$work/errors"
+    if [ $? -eq 2 ] && [ ! -s "$work/got" ] && grep -q "STOPS=$word: it is 1 or left out" "$work/errors"; then pass; else fail "make table STOPS=$word"; fi
+done
 
-# stands FILE TOLD: what `make reason` prints stands in the document, four spaces in
+# stands FILE TOLD: what a command prints stands in the document, four spaces in
 stands() {
     printf '%s\n' "$2" | tr '/' '\n' | sed 's/^/    /' >"$work/wanted"
     python3 -c 'import sys; sys.exit(open(sys.argv[2]).read() not in open(sys.argv[1]).read())' "$1" "$work/wanted"
-    good $? "$1 has another reason"
+    good $? "$1 has another text than '${2%%/*} ..'"
 }
 stands README.md "$my_told"
+stands README.md "$p1_told"
+stands README.md "$p1_stops_told"
+stands docs/TEXT-FORM.md "$p4_ending"
 stands docs/TEXT-FORM.md "$p6_told"
 stands docs/TEXT-FORM.md "$p7_told"
 
@@ -455,8 +544,9 @@ while read -r verdict name; do
     if [ "$verdict" = ok ]; then pass; else fail "doors: $name"; fi
 done <"$work/got"
 
-for program in host doors table; do
-    valgrind -q --error-exitcode=9 --leak-check=full "$work/$program" <examples/tickets/p1.ticket >/dev/null 2>"$work/errors"
+for program in host doors table 'table stops'; do
+    # shellcheck disable=SC2086
+    valgrind -q --error-exitcode=9 --leak-check=full "$work/"$program <examples/tickets/p1.ticket >/dev/null 2>"$work/errors"
     good $? "$program under valgrind"
     if [ -s "$work/errors" ]; then fail "$program under valgrind: errors"; head -n 20 "$work/errors"; else pass; fi
 done

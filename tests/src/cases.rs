@@ -40,9 +40,11 @@ pub enum Kind {
     ReasonTiny,
     /// Reasons with damaged lists of names, and damaged tickets.
     ReasonLists,
+    /// Tables after many numbers of stops, of tickets of all structures and of damaged ones.
+    Stops,
 }
 
-pub const KINDS: [Kind; 15] = [
+pub const KINDS: [Kind; 16] = [
     Kind::Tiny,
     Kind::Structures,
     Kind::Runs,
@@ -58,6 +60,7 @@ pub const KINDS: [Kind; 15] = [
     Kind::Reason,
     Kind::ReasonTiny,
     Kind::ReasonLists,
+    Kind::Stops,
 ];
 
 impl Kind {
@@ -78,6 +81,7 @@ impl Kind {
             Kind::Reason => "reason",
             Kind::ReasonTiny => "reason-tiny",
             Kind::ReasonLists => "reason-lists",
+            Kind::Stops => "stops",
         }
     }
 
@@ -91,7 +95,8 @@ impl Kind {
             0..=119 => Kind::Tiny,
             120..=299 => Kind::Structures,
             300..=359 => Kind::Runs,
-            360..=529 => Kind::Foreign,
+            360..=489 => Kind::Foreign,
+            490..=529 => Kind::Stops,
             530..=609 => Kind::Damaged,
             610..=613 => Kind::Prefixes,
             614..=616 => Kind::Lengths,
@@ -120,6 +125,7 @@ impl Kind {
             Kind::Latest => &[0, 1, 2, 3, 4, 5, 6, 7, 8, 9, 10, 11, 12, 13],
             Kind::Reason | Kind::ReasonLists => &[0, 1, 2, 3, 4, 5, 6, 7, 8, 10, 16, 17],
             Kind::ReasonTiny => &[0, 17],
+            Kind::Stops => &[0, 1, 2, 3, 4, 5, 6, 7, 8, 9, 10],
             _ => &[],
         }
     }
@@ -144,21 +150,37 @@ pub fn run(kind: Kind, seed: u64, library: &dyn Library) -> Report {
         Kind::Reason => reason(&mut trial, seed),
         Kind::ReasonTiny => reason_tiny(&mut trial),
         Kind::ReasonLists => reason_lists(&mut trial, seed),
+        Kind::Stops => stops(&mut trial, seed),
     }
     trial.report
 }
 
-/// Table and both round trips of one ticket, then its plan, or its latest one.
+/// Table, tables after stops and both round trips of one ticket, then its plan, or its latest one.
 fn planned(trial: &mut Trial, prefer: Prefer, ticket: &Ticket) -> Option<Vec<u8>> {
     let bytes = writing::ticket(ticket);
     let length = some_length(calls::TABLE, &mut trial.random);
     trial.table(ticket.horizon, ticket.events() as u32, &ticket.rules, length);
+    tables_after(trial, ticket, 4, &[]);
     trial.rewrite_ticket(&bytes, calls::TICKET);
     let record = trial.plan(prefer, &bytes, ENOUGH);
     if let Some(record) = &record {
         trial.rewrite_record(record, calls::RECORD);
     }
     record
+}
+
+/// Tables of one ticket after each number of stops and one more; of more than `few` events, after those given and three
+/// drawn ones.
+fn tables_after(trial: &mut Trial, ticket: &Ticket, few: u32, given: &[u32]) {
+    let (bytes, n) = (writing::ticket(ticket), ticket.events() as u32);
+    let mut counts: Vec<u32> = (0..=n + 2).collect();
+    if n > few {
+        counts = given.to_vec();
+        counts.extend([(); 3].map(|_| some_stops(n, &mut trial.random)));
+    }
+    for count in counts {
+        trial.table_after(&bytes, count, calls::TABLE);
+    }
 }
 
 /// Commits on a record until `most` commitments are tried or every event is committed; `refused` percent of
@@ -301,8 +323,11 @@ fn lengths(trial: &mut Trial) {
         trial.rewrite_ticket(&ticket, out);
     }
     for out in around(calls::TABLE) {
-        let Record { ticket, .. } = &record;
-        trial.table(ticket.horizon, ticket.events() as u32, &ticket.rules, out);
+        let Record { ticket: read, .. } = &record;
+        let n = read.events() as u32;
+        trial.table(read.horizon, n, &read.rules, out);
+        let count = some_stops(n, &mut trial.random);
+        trial.table_after(&ticket, count, out);
     }
     for out in [0, 1, bytes.len() - 1, bytes.len(), 4_000] {
         for scratch in [0, 1, 2_400, 20_000] {
@@ -450,6 +475,26 @@ fn reason_lists(trial: &mut Trial, seed: u64) {
     trial.reason(&Asked { ticket, labels: roster, roster: labels }, calls::REASON);
 }
 
+/// Tables of a ticket after many numbers of stops, again with another output length, and of the ticket damaged.
+fn stops(trial: &mut Trial, seed: u64) {
+    let random = &mut trial.random;
+    let ticket = match random.below(10) {
+        0..=1 => impossible::ticket(random.pick(&SHAPES), random),
+        2..=3 => generate::far(random),
+        _ => {
+            let (n, horizon) = generate::size(random);
+            generate::ticket(STRUCTURES[seed as usize % STRUCTURES.len()], n, horizon, random)
+        }
+    };
+    let (bytes, n) = (writing::ticket(&ticket), ticket.events() as u32);
+    let damaged = generate::damaged(&bytes, random);
+    let counts = [(); 2].map(|_| some_stops(n, random));
+    let lengths = [(); 2].map(|_| some_length(calls::TABLE, random));
+    tables_after(trial, &ticket, 6, &[0, 1, n, n + 1, u32::MAX]);
+    trial.table_after(&bytes, counts[0], lengths[0]);
+    trial.table_after(&damaged, counts[1], lengths[1]);
+}
+
 /// What a ticket is made of, not all of it in range.
 struct Values {
     horizon: u32,
@@ -551,6 +596,14 @@ fn disturb_windows(loose: &mut LooseRecord, random: &mut Random) {
             loose.flags[k] = 1 - loose.flags[k].min(1);
             loose.number = random.pick(&[loose.number, loose.number + 1]);
         }
+    }
+}
+
+/// A number of stops for n events, every third time at a limit or past all.
+fn some_stops(n: u32, random: &mut Random) -> u32 {
+    match random.below(3) {
+        0 => random.pick(&[0, 1, n, n + 1, n + 2, 256, 65_536, u32::MAX]),
+        _ => random.below(n as usize + 2) as u32,
     }
 }
 

@@ -7,6 +7,7 @@ use crate::model::{
     distances, reading, text, writing, Commitment, Prefer, Range, Record, Rule, Solver, Ticket, Window,
 };
 use crate::reason_faults::{self, ReasonFault};
+use crate::stop_faults::{self, StopFault};
 
 #[derive(Clone, Copy, Debug, PartialEq, Eq)]
 pub enum Fault {
@@ -80,9 +81,11 @@ pub enum Fault {
     PrintsEarliest,
     /// A fault of the call for reasons in words.
     Reason(ReasonFault),
+    /// A fault of the call for tables after some stops.
+    Stops(StopFault),
 }
 
-/// All faults but those of reasons.
+/// All faults but those of reasons and of stops.
 pub const FAULTS: [Fault; 34] = [
     Fault::RefusesAll,
     Fault::OnePlan,
@@ -185,7 +188,7 @@ fn with_mended_count(bytes: &[u8]) -> Vec<u8> {
 }
 
 /// The longest prefix that reads as a ticket, if there is one.
-fn ticket_prefix(bytes: &[u8]) -> &[u8] {
+pub fn ticket_prefix(bytes: &[u8]) -> &[u8] {
     let whole = |length: &usize| reading::ticket(&bytes[..*length]).is_ok();
     match reading::ticket(bytes) {
         Err(8) => &bytes[..(0..bytes.len()).find(whole).unwrap_or(bytes.len())],
@@ -426,6 +429,13 @@ impl Library for Faulty {
             }
         }
         number
+    }
+
+    fn table_after(&self, ticket: &[u8], stops: u32, out: &mut [i32]) -> u32 {
+        match self.fault {
+            Fault::Stops(fault) => stop_faults::table_after(fault, ticket, stops, out),
+            _ => Model.table_after(ticket, stops, out),
+        }
     }
 
     fn rewrite_ticket(&self, ticket: &[u8], out: &mut [u8]) -> (u32, u32) {

@@ -225,6 +225,33 @@ fn squeezed(rules: &mut Rules, n: usize, h: i64, random: &mut Random) {
     }
 }
 
+/// Rules from each event to the next in some order, and others, with bounds from 0 up to the greatest: the sum of a path
+/// through many events is far above the horizon.
+pub fn far(random: &mut Random) -> Ticket {
+    let (n, horizon) = size(random);
+    let mut order = random.order(n);
+    match random.below(3) {
+        0 => order.sort(),
+        1 => order.sort_by(|a, b| b.cmp(a)),
+        _ => {}
+    }
+    let mut rules = Rules { list: Vec::new() };
+    for pair in order.windows(2) {
+        rules.at_most(pair[0] + 1, pair[1] + 1, far_bound(random));
+    }
+    for _ in 0..random.pick(&[0, 0, n / 4, 3 * n]) {
+        rules.at_most(random.below(n + 1), random.below(n + 1), far_bound(random));
+    }
+    let owners = (0..n).map(|_| random.below(5) as u8).collect();
+    let order = random.order(rules.list.len());
+    Ticket { horizon, owners, rules: order.into_iter().map(|k| rules.list[k]).collect() }
+}
+
+fn far_bound(random: &mut Random) -> i64 {
+    let any = random.between(0, FARTHEST);
+    random.pick(&[FARTHEST, FARTHEST, FARTHEST - 1, any])
+}
+
 /// At most 4 events over few ticks: every set of windows can be tried.
 pub fn tiny(random: &mut Random) -> Ticket {
     let (n, horizon) =

@@ -15,6 +15,9 @@ pub trait Library: Sync {
     /// The C door of the table.
     fn table(&self, horizon: u32, events: u32, rules: &[Rule], out: &mut [i32]) -> u32;
 
+    /// The C door of a ticket's table after this many stops.
+    fn table_after(&self, ticket: &[u8], stops: u32, out: &mut [i32]) -> u32;
+
     /// Reading and then writing: number and length.
     fn rewrite_ticket(&self, ticket: &[u8], out: &mut [u8]) -> (u32, u32);
     fn rewrite_record(&self, record: &[u8], out: &mut [u8]) -> (u32, u32);
@@ -60,6 +63,10 @@ impl Library for Model {
 
     fn table(&self, horizon: u32, events: u32, rules: &[Rule], out: &mut [i32]) -> u32 {
         calls::table(horizon, events, rules, out, Solver::Flow)
+    }
+
+    fn table_after(&self, ticket: &[u8], stops: u32, out: &mut [i32]) -> u32 {
+        calls::table_after(ticket, stops, out, Solver::Flow)
     }
 
     fn rewrite_ticket(&self, ticket: &[u8], out: &mut [u8]) -> (u32, u32) {

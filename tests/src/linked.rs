@@ -34,6 +34,7 @@ extern "C" {
         out: *mut i32,
         out_len: usize,
     ) -> u32;
+    fn beyunlak_table_after(ticket: *const u8, ticket_len: usize, stops: u32, out: *mut i32, out_len: usize) -> u32;
     fn beyunlak_reason(
         ticket: *const u8,
         ticket_len: usize,
@@ -217,6 +218,10 @@ impl Library for Linked {
     fn table(&self, horizon: u32, events: u32, rules: &[Rule], out: &mut [i32]) -> u32 {
         let lent: Vec<LentRule> = rules.iter().map(|r| LentRule { from: r.from, to: r.to, bound: r.bound }).collect();
         unsafe { beyunlak_table(horizon, events, lent.as_ptr(), lent.len(), out.as_mut_ptr(), out.len()) }
+    }
+
+    fn table_after(&self, ticket: &[u8], stops: u32, out: &mut [i32]) -> u32 {
+        unsafe { beyunlak_table_after(ticket.as_ptr(), ticket.len(), stops, out.as_mut_ptr(), out.len()) }
     }
 
     fn rewrite_ticket(&self, ticket: &[u8], out: &mut [u8]) -> (u32, u32) {

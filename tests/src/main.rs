@@ -13,6 +13,7 @@ mod model;
 mod random;
 mod reason_faults;
 mod solvers;
+mod stop_faults;
 mod stored;
 mod trial;
 
@@ -23,10 +24,11 @@ use reason_faults::REASON_FAULTS;
 use std::sync::atomic::{AtomicU64, Ordering};
 use std::sync::Mutex;
 use std::time::Instant;
+use stop_faults::STOP_FAULTS;
 use trial::{Report, NUMBERS};
 
 /// How many seeds of each kind the quick part tries.
-const QUICK: [(Kind, u64); 15] = [
+const QUICK: [(Kind, u64); 16] = [
     (Kind::Tiny, 4_000),
     (Kind::Structures, 3_600),
     (Kind::Runs, 150),
@@ -42,13 +44,14 @@ const QUICK: [(Kind, u64); 15] = [
     (Kind::Reason, 9_000),
     (Kind::ReasonTiny, 4_000),
     (Kind::ReasonLists, 6_000),
+    (Kind::Stops, 3_000),
 ];
 
 const USAGE: &str = "\
 tests/run quick                      stored cases and some thousand seeds: the gate's part
 tests/run long SEED COUNT [THREADS]  seeds from SEED on until COUNT calls are made
 tests/run one KIND SEED              one case: tiny structures runs foreign damaged prefixes lengths values records text
-                                     latest latest-tiny reason reason-tiny reason-lists
+                                     latest latest-tiny reason reason-tiny reason-lists stops
 tests/run solvers SEED COUNT         the solvers of the model against each other
 tests/run self-check                 libraries with a planted fault: each has to be caught";
 
@@ -211,7 +214,8 @@ fn long(library: &dyn Library, seed: u64, count: u64, threads: usize) -> i32 {
 /// How the quick part finds each planted fault: the kinds of cases that show it.
 fn self_check() -> i32 {
     let mut all = Tally::default();
-    for fault in FAULTS.into_iter().chain(REASON_FAULTS.map(Fault::Reason)) {
+    let of_calls = REASON_FAULTS.map(Fault::Reason).into_iter().chain(STOP_FAULTS.map(Fault::Stops));
+    for fault in FAULTS.into_iter().chain(of_calls) {
         let library = Faulty { fault };
         let mut caught: Vec<String> = Vec::new();
         for case in &stored::CASES {

@@ -1,12 +1,13 @@
 //! The model against itself: exhaustive search and flow on tiny tickets and records, tables by enumeration
 //! and by shortest paths, the latest plan against the mirror of 02 on tickets of all sizes, rings out of all walks and by
-//! least sums of walks, and bytes that come back from reading and writing.
+//! least sums of walks, shortest paths over stops in rounds and out of all paths, and bytes that come back from reading
+//! and writing.
 
 use crate::generate::{self, STRUCTURES};
 use crate::impossible::{self, SHAPES};
 use crate::mirror;
 use crate::model::calls::{self, Outcome};
-use crate::model::{distances, exhaustive, reading, reason, rings, writing, Prefer, Solver, Ticket, BOTH};
+use crate::model::{distances, exhaustive, reading, reason, rings, stops, writing, Prefer, Solver, Ticket, BOTH};
 use crate::random::Random;
 
 fn same(seed: u64, what: &str, by: impl Fn(Solver) -> Outcome, differences: &mut Vec<String>) {
@@ -60,6 +61,24 @@ fn reworded(seed: u64, ticket: &Ticket, random: &mut Random, differences: &mut V
     }
 }
 
+/// Shortest paths after each number of stops, in rounds against out of all paths; after all stops also against the table.
+fn stopped(seed: u64, ticket: &Ticket, table: Option<Vec<Vec<i64>>>, differences: &mut Vec<String>) {
+    let Some(table) = table else { return };
+    let finished: stops::Sums = table.into_iter().map(|row| row.into_iter().map(Some).collect()).collect();
+    let rules = ticket.all_rules();
+    for count in 0..=ticket.events() as u32 + 2 {
+        let is_stop = stops::taken(ticket.events(), count);
+        let by = |solver: Solver| stops::sums(&rules, &is_stop, solver);
+        let (searched, summed) = (by(Solver::Exhaustive), by(Solver::Flow));
+        if searched != summed {
+            differences.push(format!("{count} stops at seed {seed}: searched {searched:?}, in rounds {summed:?}"));
+        }
+        if count as usize > ticket.events() && summed != finished {
+            differences.push(format!("all stops at seed {seed}: {summed:?}, table {finished:?}"));
+        }
+    }
+}
+
 /// How many tickets and records were tried, and where the ways differ.
 pub fn compare(first: u64, count: u64) -> (u64, Vec<String>) {
     let mut differences = Vec::new();
@@ -72,9 +91,11 @@ pub fn compare(first: u64, count: u64) -> (u64, Vec<String>) {
             same(seed, "plan", |solver| calls::plan(&bytes, prefer, solver), &mut differences);
         }
         mirrored(seed, &ticket, &mut differences);
-        if exhaustive::table(&ticket) != distances::table(&ticket) {
+        let table = exhaustive::table(&ticket);
+        if table != distances::table(&ticket) {
             differences.push(format!("table at seed {seed}"));
         }
+        stopped(seed, &ticket, table, &mut differences);
         if reading::ticket(&bytes).as_ref() != Ok(&ticket) {
             differences.push(format!("ticket read again at seed {seed}"));
         }
@@ -98,7 +119,9 @@ pub fn compare(first: u64, count: u64) -> (u64, Vec<String>) {
         let larger = impossible::ticket(SHAPES[seed as usize % SHAPES.len()], random);
         ringed(seed, &larger, false, &mut differences);
         reworded(seed, &larger, random, &mut differences);
-        tried += 4;
+        let small = generate::ticket(structure, random.below(7), horizon, random);
+        stopped(seed, &small, distances::table(&small), &mut differences);
+        tried += 5;
     }
     (tried, differences)
 }

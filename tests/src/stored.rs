@@ -2,6 +2,7 @@
 //! Each is also compared with the model. "Says" lines are the source's statement, in our words.
 
 mod reasons;
+mod stops;
 
 use crate::library::Library;
 use crate::model::calls;
@@ -11,7 +12,7 @@ use crate::trial::{Lengths, Report, Trial, ENOUGH};
 /// A name and what it tries.
 type Case = (&'static str, fn(&mut Stored));
 
-pub const CASES: [Case; 35] = [
+pub const CASES: [Case; 43] = [
     ("01, P1 and P2", example_1_2),
     ("01, P3", example_3),
     ("01, P4 and P5", example_4_5),
@@ -35,6 +36,14 @@ pub const CASES: [Case; 35] = [
     ("02, change 2: names", reasons::names),
     ("02, change 2: refusals in their order", reasons::refusals),
     ("02, change 2: lists that break their layout", reasons::lists),
+    ("02, change 3: P1 after each stop", stops::example_1),
+    ("02, change 3: a path more at each stop", stops::each_stop),
+    ("02, change 3: the database last", stops::database_last),
+    ("02, change 3: no path until session start", stops::no_path),
+    ("02, change 3: single rules", stops::single_rules),
+    ("02, change 3: far above the horizon", stops::far_above_the_horizon),
+    ("02, change 3: no schedule", stops::impossible),
+    ("02, change 3: refusals in their order", stops::refusals),
     ("000, examples 1 and 2: trains", trains),
     ("000, example 3: earliest to latest", trains_earliest_to_latest),
     ("000, examples 4 to 6: a train commits", trains_commitment),
@@ -76,7 +85,7 @@ impl Stored<'_> {
     }
 
     /// Tiny tickets are also compared with exhaustive search.
-    fn both_solvers(&mut self, tiny: bool, mut call: impl FnMut(&mut Trial) -> Option<Vec<u8>>) -> Option<Vec<u8>> {
+    fn both_solvers<T>(&mut self, tiny: bool, mut call: impl FnMut(&mut Trial) -> T) -> T {
         if tiny {
             self.trial.solver = Solver::Exhaustive;
             call(&mut self.trial);

@@ -4,6 +4,7 @@ use crate::lent::{Element, Lent};
 use crate::library::Library;
 use crate::model::calls::{self, Answer, Asked, Loose, LooseRecord, Outcome};
 use crate::model::rings::{self, Step};
+use crate::model::stops::NO_PATH;
 use crate::model::{reading, reason, text, writing, Commitment, Prefer, Record, Rule, Solver, Ticket};
 use crate::random::Random;
 
@@ -157,6 +158,28 @@ impl<'a> Trial<'a> {
         out.slice().to_vec()
     }
 
+    /// The table of these bytes after this many stops; what the output holds afterwards. If they are a ticket, its table is
+    /// asked for, too.
+    pub fn table_after(&mut self, ticket: &[u8], stops: u32, length: usize) -> Vec<i32> {
+        let mut out: Lent<i32> = self.lend(length);
+        let (mut expected, mut finished) = (out.slice().to_vec(), out.slice().to_vec());
+        let number = calls::table_after(ticket, stops, &mut expected, self.solver);
+        let answer = self.library.table_after(ticket, stops, out.slice());
+        self.count(number);
+        let call = || format!("table of {} after {stops} stops, {length} numbers", hex(ticket));
+        self.expect(answer == number, "number after stops", || {
+            format!("{} answered {answer}, expected {number}", call())
+        });
+        self.expect(out.slice() == expected, "table after stops", call);
+        self.expect(out.untouched_after(length), "margin of the table after stops", call);
+        if let Ok(read) = reading::ticket(ticket) {
+            let of_table = self.library.table(read.horizon, read.events() as u32, &read.rules, &mut finished);
+            let holds = answer == of_table && (number != 0 || is_after(&read, stops, out.slice(), &finished));
+            self.expect(holds, "a claim of a table after stops", || format!("{}, the table {of_table}", call()));
+        }
+        out.slice().to_vec()
+    }
+
     pub fn rewrite_ticket(&mut self, ticket: &[u8], length: usize) {
         let library = self.library;
         let expected = |out: &mut [u8]| calls::rewrite_ticket(ticket, out);
@@ -252,6 +275,30 @@ impl<'a> Trial<'a> {
         self.expect(holds, "a run's claim", || format!("{commitment:?} made {} of {before:?}", hex(after)));
         Some(record)
     }
+}
+
+/// Claims of a table after some stops that need no model: each entry is the least of the bounds between its points, of 0
+/// from a point to itself, and of two entries that meet at a stop taken; none is below the finished one; and after all
+/// stops the output is that of the finished table.
+fn is_after(ticket: &Ticket, stops: u32, out: &[i32], finished: &[i32]) -> bool {
+    if stops as usize > ticket.events() {
+        return out == finished;
+    }
+    let size = ticket.events() + 1;
+    let at = |i: usize, j: usize| out[i * size + j];
+    let mut least = vec![NO_PATH as i64; size * size];
+    let mut lower = |i: usize, j: usize, sum: i64| least[i * size + j] = least[i * size + j].min(sum);
+    (0..size).for_each(|point| lower(point, point, 0));
+    ticket.all_rules().into_iter().for_each(|(i, j, bound)| lower(i, j, bound));
+    for k in size - stops as usize..size {
+        for i in (0..size).filter(|&i| i != k && at(i, k) != NO_PATH) {
+            for j in (0..size).filter(|&j| j != k && at(k, j) != NO_PATH) {
+                lower(i, j, at(i, k) as i64 + at(k, j) as i64);
+            }
+        }
+    }
+    out.iter().zip(&least).all(|(&entry, &least)| entry as i64 == least)
+        && out.iter().zip(finished).all(|(entry, least)| entry >= least)
 }
 
 /// The rule of this number, counted from the number; none if there is none.

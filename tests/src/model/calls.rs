@@ -1,6 +1,6 @@
 //! The calls: what is answered and written, from everything that is lent.
 
-use super::{distances, exhaustive, reading, reason, rings, writing};
+use super::{distances, exhaustive, reading, reason, rings, stops, writing};
 use super::{Commitment, Prefer, Record, Rule, Solver, Ticket, Window};
 
 /// Least sizes: bytes of a ticket's and a record's output, numbers of scratch, numbers of a table, bytes of a reason's output.
@@ -33,6 +33,14 @@ fn fit(record: &Record, solver: Solver) -> bool {
     let close = |point: u8| if point == 0 { 0 } else { record.windows[point as usize - 1].close as i64 };
     let open = |point: u8| if point == 0 { 0 } else { record.windows[point as usize - 1].open as i64 };
     record.ticket.rules.iter().all(|r| close(r.to) - open(r.from) <= r.bound as i64)
+}
+
+/// Whether a schedule exists; for tiny tickets tried list by list.
+fn has_schedule(ticket: &Ticket, solver: Solver) -> bool {
+    match solver {
+        Solver::Exhaustive => exhaustive::has_schedule(ticket),
+        Solver::Flow => distances::has_schedule(ticket),
+    }
 }
 
 /// Planning of a ticket's bytes, once output and scratch are long enough: the plan, or the latest plan.
@@ -100,24 +108,38 @@ pub fn table_request(horizon: u32, events: u32, rules: &[Rule]) -> Result<Ticket
     Ok(Ticket { horizon, owners: vec![0; events as usize], rules: rules.to_vec() })
 }
 
-/// The table's number; the rows are written one after another.
-pub fn table(horizon: u32, events: u32, rules: &[Rule], out: &mut [i32], solver: Solver) -> u32 {
+/// A table's number: 10, then that of what is no ticket, then 9 if it has no entries. They are written row by row.
+pub fn tabled(ticket: Result<Ticket, u32>, out: &mut [i32], entries: impl FnOnce(&Ticket) -> Option<Vec<i32>>) -> u32 {
     if out.len() < TABLE {
         return 10;
     }
-    let ticket = match table_request(horizon, events, rules) {
+    let ticket = match ticket {
         Ok(ticket) => ticket,
         Err(number) => return number,
     };
-    let rows = match solver {
-        Solver::Exhaustive => exhaustive::table(&ticket),
-        Solver::Flow => distances::table(&ticket),
-    };
-    let Some(rows) = rows else { return 9 };
-    for (place, entry) in out.iter_mut().zip(rows.into_iter().flatten()) {
-        *place = entry as i32;
-    }
+    let Some(entries) = entries(&ticket) else { return 9 };
+    out[..entries.len()].copy_from_slice(&entries);
     0
+}
+
+pub fn table(horizon: u32, events: u32, rules: &[Rule], out: &mut [i32], solver: Solver) -> u32 {
+    tabled(table_request(horizon, events, rules), out, |ticket| {
+        let rows = match solver {
+            Solver::Exhaustive => exhaustive::table(ticket),
+            Solver::Flow => distances::table(ticket),
+        };
+        Some(rows?.into_iter().flatten().map(|entry| entry as i32).collect())
+    })
+}
+
+/// The table of a ticket's bytes after this many stops: entries of shortest paths over these, if there is a schedule.
+pub fn table_after(bytes: &[u8], count: u32, out: &mut [i32], solver: Solver) -> u32 {
+    tabled(reading::ticket(bytes), out, |ticket| {
+        let is_stop = stops::taken(ticket.events(), count);
+        let sums = || stops::sums(&ticket.all_rules(), &is_stop, solver);
+        let entry = |sum: Option<i64>| sum.map_or(stops::NO_PATH, |sum| sum as i32);
+        has_schedule(ticket, solver).then(|| sums().into_iter().flatten().map(entry).collect())
+    })
 }
 
 /// Reads a ticket and writes it again: number and length.
@@ -212,11 +234,7 @@ pub fn reason(asked: &Asked, out: &mut [u8], solver: Solver) -> (u32, u32) {
         let ticket = reading::ticket(&asked.ticket)?;
         let labels = reason::names(&asked.labels, ticket.events())?;
         let roster = reason::names(&asked.roster, reason::DEVICES)?;
-        let possible = match solver {
-            Solver::Exhaustive => exhaustive::has_schedule(&ticket),
-            Solver::Flow => distances::has_schedule(&ticket),
-        };
-        if possible {
+        if has_schedule(&ticket, solver) {
             return Err(17);
         }
         let ring = rings::first(&ticket, solver).expect("without a schedule there is a ring");

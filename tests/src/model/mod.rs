@@ -9,6 +9,7 @@ pub mod flow;
 pub mod reading;
 pub mod reason;
 pub mod rings;
+pub mod stops;
 pub mod text;
 pub mod writing;
 
@@ -56,7 +57,8 @@ pub struct Range {
     pub close: (u32, u32),
 }
 
-/// How the windows are found; a ring is found by trying every walk, or by least sums of walks.
+/// How the windows are found; a ring is found by trying every walk, or by least sums of walks; shortest paths by trying
+/// every path, or in rounds.
 #[derive(Clone, Copy, Debug, PartialEq, Eq)]
 pub enum Solver {
     Exhaustive,
