@@ -8,8 +8,9 @@ use Rattle.temporal.specs.Ticket.{fits}
 use Rattle.temporal.specs.Plan.{cause, asking}
 use Rattle.network.specs.Stored.{at}
 use Rattle.ticket.specs.Writing.{content, stateOf}
+use Rattle.ticket.specs.Content.{in-events}
 use Rattle.ticket.specs.declared.Record.{Record}
-use Rattle.potentials.specs.Arrays.{windowList, in-events}
+use Rattle.potentials.specs.Arrays.{windowList}
 use Rattle.causes.specs.Structs.{Canonical, flag-of, open-of, close-of}
 
 -- by numbers: whether the windows are fit, n events, the event, its flag, whether the window named leaves the one that the event has

@@ -21,7 +21,8 @@ use Rattle.ticket.specs.Agree.{field-at, state-stored}
 use Rattle.ticket.specs.Writing.{content, stateOf, Storable}
 use Rattle.ticket.specs.Stored.{pad, storedState}
 use Rattle.ticket.specs.Writer.{flagByte}
-use Rattle.potentials.specs.Arrays.{windowList, flagList, window-at, flag-at, in-events, in-rules, Lie, Within}
+use Rattle.ticket.specs.Content.{in-events, in-rules}
+use Rattle.potentials.specs.Arrays.{windowList, flagList, window-at, flag-at, Lie, Within}
 use Rattle.ticket.specs.declared.Record.{Record}
 
 -- ---- an array of 40 numbers, 0 past the first n

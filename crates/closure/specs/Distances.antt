@@ -15,11 +15,11 @@ use Rattle.paths.specs.Walks.{valid-points}
 use Rattle.closure.specs.Cases.{by-eq}
 use Rattle.closure.specs.Signed.{bias, lower, raise-parts}
 use Rattle.closure.specs.Matrix.{Matrix, floor, Everywhere, floor-same, floor-other}
-use Rattle.closure.specs.Start.{unused, ruleAt, start, Sound, started}
+use Rattle.closure.specs.Start.{unused, ruleAt, firstEntries, Sound, started}
 use Rattle.closure.specs.Stops.{after, Floors, AboveFloors, Working, working-sound}
 
 -- The entries D after all stops.
-module _ (k : Ticket) (valid : Valid k) (D : Matrix) (h : Working k (start (k .horizon) (k .rules)) (events k + 1) D) where
+module _ (k : Ticket) (valid : Valid k) (D : Matrix) (h : Working k (firstEntries k) (events k + 1) D) where
   to-origin : (i : ℕ) → i ≤ events k → D i 0 ≤ bias
   to-origin i li = omega (arith, h .below i 0 li (omega arith), started k valid .origin i li)
 
@@ -66,10 +66,10 @@ module _ (k : Ticket) (valid : Valid k) where
       (λ q. omega (arith, floor-other i j q, inside k ts schedule i))
 
   -- an entry below its floor rules out every schedule
-  pub no-schedule : (s : ℕ) → s ≤ events k → AboveFloors (events k) (start (k .horizon) (k .rules)) s → (i j : ℕ) → i ≤ events k → j ≤ events k
-      → after (events k) (start (k .horizon) (k .rules)) (suc s) i j < floor i j → consistent k ≡ false
+  pub no-schedule : (s : ℕ) → s ≤ events k → AboveFloors (events k) (firstEntries k) s → (i j : ℕ) → i ≤ events k → j ≤ events k
+      → after (events k) (firstEntries k) (suc s) i j < floor i j → consistent k ≡ false
   no-schedule s ls kept i j li lj low =
       T-false (consistent k) (not-T (consistent k) (λ t.
       let r = consistent-has k .0 t in
-      let floors = sound-floors (r .0) (r .1) (after (events k) (start (k .horizon) (k .rules)) (suc s)) (working-sound k valid s ls kept) in
+      let floors = sound-floors (r .0) (r .1) (after (events k) (firstEntries k) (suc s)) (working-sound k valid s ls kept) in
       omega (arith, low, floors i j li lj)))

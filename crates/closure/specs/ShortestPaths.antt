@@ -22,14 +22,10 @@ use Rattle.paths.specs.Shortest.{Taken, Any, Path, Shortest, taken-more, path-m
 use Rattle.closure.specs.Cases.{by-lt}
 use Rattle.closure.specs.Signed.{bias, lower, raise-parts, raise-high}
 use Rattle.closure.specs.Matrix.{Matrix, none, join, relax, Everywhere}
-use Rattle.closure.specs.Start.{unused, ruleAt, plain, weight, ruled, start, weight-cases, plain-cases, started}
+use Rattle.closure.specs.Start.{unused, ruleAt, plain, weight, ruled, firstEntries, weight-cases, plain-cases, started}
 use Rattle.closure.specs.Stops.{after, AboveFloors, cap-small, Working, working, working-sound, from}
 use Rattle.closure.specs.Distances.{small, all-distance, sound-floors}
 use Rattle.closure.specs.Meaning.{Means, ByStops, Carried, means-unique}
-
--- the entries before the first stop
-abbrev pub first : Ticket → Matrix
-first k = start (k .horizon) (k .rules)
 
 -- the sum of the rules, stored as an entry, is x
 abbrev Costs : Ticket → List ℕ → ℕ → Type 0
@@ -44,7 +40,7 @@ Attained k s i j x = (es : List ℕ) × Path k (Taken (events k) s) i j es × Co
 module _ (k : Ticket) (valid : Valid k) where
   -- no entry is above a rule between its points
   Under : Rule → Type 0
-  Under r = (first k (r .from) (r .to) ≤ 3000000) × (first k (r .from) (r .to) + below (r .bound) ≤ bias + above (r .bound))
+  Under r = (firstEntries k (r .from) (r .to) ≤ 3000000) × (firstEntries k (r .from) (r .to) + below (r .bound) ≤ bias + above (r .bound))
 
   start-rule : (e : ℕ) → Under (all.ruleAt k e)
   unfolding Under above below
@@ -106,52 +102,52 @@ module _ (k : Ticket) (valid : Valid k) where
 
   module _ (ts : List ℕ) (schedule : Schedule k ts) where
     -- no entry falls below its floor
-    kept : (s : ℕ) → s ≤ events k + 1 → AboveFloors (events k) (first k) s
+    kept : (s : ℕ) → s ≤ events k + 1 → AboveFloors (events k) (firstEntries k) s
     unfolding after
     kept zero l r lr = let same : r ≡ 0 = omega arith in rw same (started k valid .floors)
     kept (suc s) l r lr =
         ⊎-elim
         (λ (q : r ≤ s). kept s (omega arith) r q)
-        (λ (q : r ≡ suc s). rw q (sound-floors k valid ts schedule (after (events k) (first k) (suc s)) (working-sound k valid s (omega arith) (kept s (omega arith)))))
+        (λ (q : r ≡ suc s). rw q (sound-floors k valid ts schedule (after (events k) (firstEntries k) (suc s)) (working-sound k valid s (omega arith) (kept s (omega arith)))))
         (le-suc-iff .0 lr)
 
-    entry-working : (s : ℕ) → s ≤ events k + 1 → Working k (first k) s (after (events k) (first k) s)
+    entry-working : (s : ℕ) → s ≤ events k + 1 → Working k (firstEntries k) s (after (events k) (firstEntries k) s)
     entry-working s l = working k valid s l (kept s l)
 
     -- no entry is above a path by stops taken
     entry-least : (s : ℕ) → s ≤ events k + 1 → (es : List ℕ) (i j : ℕ) → i ≤ events k → j ≤ events k → Path k (Taken (events k) s) i j es
-        → (after (events k) (first k) s i j < none) × (after (events k) (first k) s i j + downs k es ≤ bias + ups k es)
+        → (after (events k) (firstEntries k) s i j < none) × (after (events k) (firstEntries k) s i j + downs k es ≤ bias + ups k es)
     unfolding ups downs Under
     entry-least s l [] i j li lj p =
         let h = entry-working s l .diagonal i li in
-        let same = ap (after (events k) (first k) s i) (p .leads) in
+        let same = ap (after (events k) (firstEntries k) s i) (p .leads) in
         omega (arith, h, same)
     entry-least s l (e ∷ []) i j li lj p =
         let h = entry-working s l .below i j li lj in
-        let same = ap₂ (first k) (p .leads .0) (sym (p .leads .1)) in
+        let same = ap₂ (firstEntries k) (p .leads .0) (sym (p .leads .1)) in
         omega (arith, h, start-rule e, same)
     entry-least s l (e ∷ f ∷ es) i j li lj p =
         let w = entry-working s l in
         let q = toOf k e in
         let lq = rule-points k (valid-points k valid) e .1 in
         let h = w .below i q li lq in
-        let same = ap (λ x. first k x q) (p .leads .0) in
+        let same = ap (λ x. firstEntries k x q) (p .leads .0) in
         let rest = entry-least s l (f ∷ es) q j lq lj (record { numbers = p .numbers .1; leads = p .leads .1; by = p .by .1 }) in
         let few = valid .events-limit in
-        let near : (after (events k) (first k) s i q ≤ 3000000) × (after (events k) (first k) s i q + below (boundOf k e) ≤ bias + above (boundOf k e)) =
+        let near : (after (events k) (firstEntries k) s i q ≤ 3000000) × (after (events k) (firstEntries k) s i q + below (boundOf k e) ≤ bias + above (boundOf k e)) =
         omega (arith, h, start-rule e, same) in
         let tri = w .triangle q lq (p .by .0 .1) i j li lj (omega arith) (rest .0) in
         omega (arith, tri, near, rest, w .high q j lq lj (rest .0), cap-small s (omega arith))
 
     -- and each is attained by one
     entry-attained : (s : ℕ) → s ≤ events k + 1
-        → Everywhere (events k) (λ i j. after (events k) (first k) s i j < none → Attained k s i j (after (events k) (first k) s i j))
+        → Everywhere (events k) (λ i j. after (events k) (firstEntries k) s i j < none → Attained k s i j (after (events k) (firstEntries k) s i j))
     unfolding after
     entry-attained zero l i j li lj low = ruled-attained (length (k .rules)) (omega arith) i j li lj low
     entry-attained (suc s) l i j li lj low =
         let n = events k in
         let few = valid .events-limit in
-        let D = after n (first k) s in
+        let D = after n (firstEntries k) s in
         let m = n - s in
         let lm : m ≤ n = omega arith in
         let more = path-more k (Taken n s) (Taken n (suc s)) (taken-more n s) in
@@ -166,18 +162,18 @@ module _ (k : Ticket) (valid : Valid k) where
           path-join k (Taken n (suc s)) i m j (a .0) (b .0) (lm, omega arith) (more i m (a .0) (a .1)) (more m j (b .0) (b .1)),
           omega (arith, t .total, a .2, b .2, ups-join k (a .0) (b .0), downs-join k (a .0) (b .0)),
         ))
-        (from k (first k) s (omega arith) (omega arith) D (entry-working s (omega arith)) i j li lj)
+        (from k (firstEntries k) s (omega arith) (omega arith) D (entry-working s (omega arith)) i j li lj)
 
     -- a path of at most n + 1 rules is there too, so no entry is above a million for each of them
-    entry-small : (s : ℕ) → s ≤ events k + 1 → Everywhere (events k) (λ i j. after (events k) (first k) s i j < none → after (events k) (first k) s i j ≤ 43000000)
+    entry-small : (s : ℕ) → s ≤ events k + 1 → Everywhere (events k) (λ i j. after (events k) (firstEntries k) s i j < none → after (events k) (firstEntries k) s i j ≤ 43000000)
     entry-small s l i j li lj low =
         let a = entry-attained s l i j li lj low in
         let p = short-path k (valid-points k valid) (Taken (events k) s) i j (a .0) (a .1) in
         omega (arith, entry-least s l (p .0) i j li lj (p .1) .1, ups-most k valid (p .0), p .2, valid .events-limit)
 
-    entries : (s : ℕ) → s ≤ events k + 1 → ByStops k s (after (events k) (first k) s)
+    entries : (s : ℕ) → s ≤ events k + 1 → ByStops k s (after (events k) (firstEntries k) s)
     entries s l i j li lj =
-        let x = after (events k) (first k) s i j in
+        let x = after (events k) (firstEntries k) s i j in
         let top = entry-working s l .top i j li lj in
         record {
           some = λ n.
@@ -201,27 +197,31 @@ module _ (k : Ticket) (valid : Valid k) where
     schedule = consistent-has k .0 t .1
 
     -- on a ticket with a schedule, after each stop every working entry is the shortest path by the stops taken
-    pub entries-hold : (s : ℕ) → s ≤ events k + 1 → ByStops k s (after (events k) (first k) s)
+    pub entries-hold : (s : ℕ) → s ≤ events k + 1 → ByStops k s (after (events k) (firstEntries k) s)
     entries-hold = entries ts schedule
 
+    -- from a point to itself they are 0
+    pub entries-self : (s : ℕ) → s ≤ events k + 1 → (i : ℕ) → i ≤ events k → after (events k) (firstEntries k) s i i ≡ bias
+    entries-self s l = entry-working ts schedule s l .diagonal
+
     -- none of them is below its floor, nor below minus the horizon, nor, but for `none`, above 41 millions
-    pub entries-kept : (s : ℕ) → s ≤ events k + 1 → AboveFloors (events k) (first k) s
+    pub entries-kept : (s : ℕ) → s ≤ events k + 1 → AboveFloors (events k) (firstEntries k) s
     entries-kept = kept ts schedule
 
-    pub entries-low : (s : ℕ) → s ≤ events k + 1 → Everywhere (events k) (λ i j. bias ≤ k .horizon + after (events k) (first k) s i j)
+    pub entries-low : (s : ℕ) → s ≤ events k + 1 → Everywhere (events k) (λ i j. bias ≤ k .horizon + after (events k) (firstEntries k) s i j)
     entries-low s l i j li lj = omega (arith, entry-working ts schedule s l .sound ts schedule i j li lj, inside k ts schedule i)
 
-    pub entries-small : (s : ℕ) → s ≤ events k + 1 → Everywhere (events k) (λ i j. after (events k) (first k) s i j ≢ none → after (events k) (first k) s i j ≤ 43000000)
+    pub entries-small : (s : ℕ) → s ≤ events k + 1 → Everywhere (events k) (λ i j. after (events k) (firstEntries k) s i j ≢ none → after (events k) (firstEntries k) s i j ≤ 43000000)
     entries-small s l i j li lj n =
         let top = entry-working ts schedule s l .top i j li lj in
-        entry-small ts schedule s l i j li lj (by-lt (after (events k) (first k) s i j) none (λ g. g) (λ g. absurd (n (omega arith))))
+        entry-small ts schedule s l i j li lj (by-lt (after (events k) (firstEntries k) s i j) none (λ g. g) (λ g. absurd (n (omega arith))))
 
     -- entries with this meaning are those
-    same-entries : (s : ℕ) → s ≤ events k + 1 → (D : Matrix) → ByStops k s D → Everywhere (events k) (λ i j. D i j ≡ after (events k) (first k) s i j)
-    same-entries s l D h i j li lj = means-unique k s i j (D i j) (h i j li lj) (after (events k) (first k) s i j) (entries-hold s l i j li lj)
+    same-entries : (s : ℕ) → s ≤ events k + 1 → (D : Matrix) → ByStops k s D → Everywhere (events k) (λ i j. D i j ≡ after (events k) (firstEntries k) s i j)
+    same-entries s l D h i j li lj = means-unique k s i j (D i j) (h i j li lj) (after (events k) (firstEntries k) s i j) (entries-hold s l i j li lj)
 
     -- before the first stop
-    pub first-holds : (D : Matrix) → Everywhere (events k) (λ i j. D i j ≡ start (k .horizon) (k .rules) i j) → ByStops k 0 D
+    pub first-holds : (D : Matrix) → Everywhere (events k) (λ i j. D i j ≡ firstEntries k i j) → ByStops k 0 D
     unfolding after
     first-holds D same i j li lj = subst (Means k 0 i j) (sym (same i j li lj)) (entries-hold 0 (omega arith) i j li lj)
 
@@ -232,14 +232,14 @@ module _ (k : Ticket) (valid : Valid k) where
         let m = events k - s in
         let lm : m ≤ events k = omega arith in
         let same = same-entries s (omega arith) D h in
-        let e : E i j ≡ after (events k) (first k) (suc s) i j = next i j li lj ∙ ap₂ min (same i j li lj) (ap₂ join (same i m li lm) (same m j lm lj)) in
+        let e : E i j ≡ after (events k) (firstEntries k) (suc s) i j = next i j li lj ∙ ap₂ min (same i j li lj) (ap₂ join (same i m li lm) (same m j lm lj)) in
         subst (Means k (suc s) i j) (sym e) (entries-hold (suc s) (omega arith) i j li lj)
 
     -- the finished entry is the distance,
     pub entries-distance : Everywhere (events k) (λ i j.
-        (after (events k) (first k) (events k + 1) i j ≢ none) × (distance k i j ≡ lower (after (events k) (first k) (events k + 1) i j)))
+        (after (events k) (firstEntries k) (events k + 1) i j ≢ none) × (distance k i j ≡ lower (after (events k) (firstEntries k) (events k + 1) i j)))
     entries-distance i j li lj =
-        let D = after (events k) (first k) (events k + 1) in
+        let D = after (events k) (firstEntries k) (events k + 1) in
         let w = entry-working ts schedule (events k + 1) (omega arith) in
         let near = small k valid D w i j li lj in
         let v = valid .horizon-limit in

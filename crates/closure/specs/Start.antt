@@ -42,6 +42,10 @@ ruled h rules (suc e) i j = min (ruled h rules e i j) (weight (ruleAt rules e) i
 abbrev pub start : ℕ → List Rule → Matrix
 start h rules = ruled h rules (length rules)
 
+-- The entries of a ticket before its first stop.
+abbrev pub firstEntries : Ticket → Matrix
+firstEntries k = start (k .horizon) (k .rules)
+
 -- No schedule has more between two points than their entry says.
 abbrev pub Sound : Ticket → Matrix → Type 0
 Sound k D = (ts : List ℕ) → Schedule k ts → Everywhere (events k) (λ i j. time ts j + bias ≤ time ts i + D i j)

@@ -9,7 +9,7 @@ use Rattle.temporal.specs.Run.{Valid}
 use Rattle.closure.specs.Cases.{by-eq, by-lt}
 use Rattle.closure.specs.Signed.{bias}
 use Rattle.closure.specs.Matrix.{Matrix, none, relax, floor, Everywhere, Stored, Through, floor-same, floor-low, relax-via, relax-from}
-use Rattle.closure.specs.Start.{Sound, start, started}
+use Rattle.closure.specs.Start.{Sound, firstEntries, started}
 
 -- The entries after the first s of the stops n, n - 1, .., 0.
 unfoldable pub after : ℕ → Matrix → ℕ → Matrix
@@ -139,7 +139,7 @@ abbrev pub AboveFloors : ℕ → Matrix → ℕ → Type 0
 AboveFloors n D s = (r : ℕ) → r ≤ s → Floors n (after n D r)
 
 module _ (k : Ticket) (valid : Valid k) where
-  working-none : Working k (start (k .horizon) (k .rules)) 0 (start (k .horizon) (k .rules))
+  working-none : Working k (firstEntries k) 0 (firstEntries k)
   unfolding cap
   working-none =
       let h = started k valid in
@@ -153,21 +153,21 @@ module _ (k : Ticket) (valid : Valid k) where
         triangle = λ p lk late. absurd (omega arith);
       }
 
-  pub working : (s : ℕ) → s ≤ events k + 1 → AboveFloors (events k) (start (k .horizon) (k .rules)) s
-      → Working k (start (k .horizon) (k .rules)) s (after (events k) (start (k .horizon) (k .rules)) s)
+  pub working : (s : ℕ) → s ≤ events k + 1 → AboveFloors (events k) (firstEntries k) s
+      → Working k (firstEntries k) s (after (events k) (firstEntries k) s)
   unfolding after
   working zero l kept = working-none
   working (suc s) l kept =
       let few = valid .events-limit in
-      working-more k (start (k .horizon) (k .rules)) s (omega arith) (omega arith) _
+      working-more k (firstEntries k) s (omega arith) (omega arith) _
       (working s (omega arith) (λ r p. kept r (omega arith)))
       (kept (suc s) (omega arith))
 
-  pub working-sound : (s : ℕ) → s ≤ events k → AboveFloors (events k) (start (k .horizon) (k .rules)) s → Sound k (after (events k) (start (k .horizon) (k .rules)) (suc s))
+  pub working-sound : (s : ℕ) → s ≤ events k → AboveFloors (events k) (firstEntries k) s → Sound k (after (events k) (firstEntries k) (suc s))
   unfolding after
   working-sound s l kept =
       let few = valid .events-limit in
-      sound-more k (start (k .horizon) (k .rules)) s (omega arith) l _ (working s (omega arith) kept)
+      sound-more k (firstEntries k) s (omega arith) l _ (working s (omega arith) kept)
 
 -- The entries only fall.
 pub after-top : (n : ℕ) (D : Matrix) → Everywhere n (λ i j. D i j ≤ none) → (s : ℕ) → Everywhere n (λ i j. after n D s i j ≤ none)

@@ -19,7 +19,8 @@ use Rattle.network.specs.Lists.{differ}
 use Rattle.network.specs.Stored.{at}
 use Rattle.ticket.specs.declared.Ticket.{Ticket}
 use Rattle.ticket.specs.Writing.{content, ruleIn}
-use Rattle.potentials.specs.Arrays.{noRule, Given, in-events, in-rules, rule-in}
+use Rattle.ticket.specs.Content.{in-events, in-rules}
+use Rattle.potentials.specs.Arrays.{noRule, Given, rule-in}
 use Rattle.potentials.specs.Nodes.{closeNode, close-most, potentialOf, potential-open, potential-node}
 use Rattle.demands.specs.Cost.{bound-fits}
 

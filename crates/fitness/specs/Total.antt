@@ -10,7 +10,8 @@ use Rattle.network.specs.Stored.{at}
 use Rattle.network.specs.Sum.{sum, sum-cong, sum-first}
 use Rattle.ticket.specs.declared.Ticket.{Ticket}
 use Rattle.ticket.specs.Writing.{content}
-use Rattle.potentials.specs.Arrays.{windowList, length-window-list, window-at, in-events, owner-in}
+use Rattle.ticket.specs.Content.{in-events}
+use Rattle.potentials.specs.Arrays.{windowList, length-window-list, window-at, owner-in}
 
 -- ---- the total width
 

@@ -14,7 +14,8 @@ use Rattle.temporal.specs.Run.{Valid}
 use Rattle.network.specs.Lists.{differ}
 use Rattle.ticket.specs.declared.Ticket.{Ticket}
 use Rattle.ticket.specs.Writing.{content}
-use Rattle.potentials.specs.Arrays.{windowList, flagList, in-events, in-rules, Lie, lie-at, Within, within-same}
+use Rattle.ticket.specs.Content.{in-events, in-rules}
+use Rattle.potentials.specs.Arrays.{windowList, flagList, Lie, lie-at, Within, within-same}
 use Rattle.windows.specs.Promises.{stateIn, Workspace, Planned}
 use Rattle.mirror.specs.Mirror.{mirrorWindows, lies-mirror}
 use Rattle.mirror.specs.Cut.{cutMirror, length-cutMirror, Possible, turnedBack, planLatest-cutMirror, valid-proper, cutMirror-valid, schedule-possible}

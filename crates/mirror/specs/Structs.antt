@@ -23,7 +23,8 @@ use Rattle.network.specs.Stored.{at}
 use Rattle.ticket.specs.declared.Ticket.{Ticket}
 use Rattle.ticket.specs.Writing.{firsts, ruleIn, content}
 use Rattle.ticket.specs.Agree.{firsts-cong, all-firsts}
-use Rattle.potentials.specs.Arrays.{windowList, Within, noRule, rule-in, in-rules}
+use Rattle.ticket.specs.Content.{in-rules}
+use Rattle.potentials.specs.Arrays.{windowList, Within, noRule, rule-in}
 use Rattle.mirror.specs.Mirror.{mirrorBound, mirrorRule, mirrorWindow, mirrorWindows, signs-plus, signs-minus}
 use Rattle.mirror.specs.Cut.{cutBound, cutMirrorBound, cutRule, cutMirror, Possible, signs-one, signs-low, signs-high}
 

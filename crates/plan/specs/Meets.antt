@@ -7,21 +7,21 @@ use lib.ListN.{length}
 use Rattle.temporal.specs.Ticket as temporal
 use Rattle.temporal.specs.Ticket.{total}
 use Rattle.temporal.specs.Plan.{State, Answer as Decision, accepted, refused, plan, planLatest, commit, asking}
-use Rattle.temporal.specs.Run.{Valid, Readable}
+use Rattle.temporal.specs.Run.{Readable}
 use Rattle.ticket.specs.Parser.{Cause, Out, got, number, wholly}
 use Rattle.ticket.specs.Parser as parser
 use Rattle.ticket.specs.Format.{readTicket, readState}
 use Rattle.ticket.specs.Writer.{writeState}
 use Rattle.ticket.specs.Writing.{content, stateOf, over}
-use Rattle.ticket.specs.Stored.{stored, answer, storedState, planned, wholeTicket, wholeRecord}
-use Rattle.ticket.specs.RoundTrip.{Bytes, written-read, written-read-state}
+use Rattle.ticket.specs.Stored.{answer, storedState, planned, wholeTicket, wholeRecord}
+use Rattle.ticket.specs.RoundTrip.{Bytes, written-read-state}
 use Rattle.ticket.specs.Laws.{was-refused, was-got}
 use Rattle.ticket.specs.declared.ReadTicket.{ReadTicket}
 use Rattle.ticket.specs.declared.ReadRecord.{ReadRecord}
 use Rattle.causes.specs.Zeroed.{past, zeroed-rest}
 use Rattle.runs.specs.Calls.{Outcome, zeroed, cleared, withoutRoom, answered, afterReading, planning, planningLatest, committing}
 use Rattle.runs.specs.Calls.{enough-room, no-room-out, planning-short, planning-read, planningLatest-short, planningLatest-read, committing-short, committing-read}
-use Rattle.ticket.specs.Agree.{content-stored}
+use Rattle.ticket.specs.Content.{read-got, read-content}
 use Rattle.causes.specs.Structs.{state-of, Canonical, canonical-read}
 use Rattle.plan.specs.Returned.{returned}
 use Rattle.plan.specs.declared.Answer.{Answer}
@@ -73,24 +73,12 @@ module _ (ticket : List ℕ) {x : ReadTicket} (e : x ≡ wholeTicket ticket) whe
   ticket-misread decide n q = meets-misread (λ (y : ReadTicket). y .number) (answer 0) (λ k t. refl) (λ k. refl) decide (wholly readTicket ticket) x e n q
 
   module _ (z : x .number ≡ 0) where
-    read : (k : temporal.Ticket) × (rest : List ℕ) × (wholly readTicket ticket ≡ got k rest)
-    read = was-got (λ (y : ReadTicket). y .number) (answer 0) (λ k t. refl) (λ k. refl) (wholly readTicket ticket) x e z
-
-    struct : x .ticket ≡ stored (read .0)
-    struct = ap (λ (y : ReadTicket). y .ticket) (e ∙ ap (answer 0) (read .2))
-
-    holds : content (x .ticket) ≡ read .0
-    holds = ap content struct ∙ content-stored (read .0)
-
-    pub ticket-read : Bytes ticket → Valid (content (x .ticket))
-    ticket-read b = subst Valid (sym holds) (written-read ticket (read .0) (read .1) b (read .2) .1)
-
     pub ticket-meets : (decide : temporal.Ticket → Decision) (out : List ℕ) {scratch : List ℕ} {a : Answer} {out′ scratch′ : List ℕ}
         → Meets (answered out scratch (decide (content (x .ticket)))) scratch a out′ scratch′
         → Meets (afterReading out scratch decide (wholly readTicket ticket)) scratch a out′ scratch′
     ticket-meets decide out {scratch} {a} {out′} {scratch′} m =
         subst (λ o. Meets o scratch a out′ scratch′)
-        (ap (λ k. answered out scratch (decide k)) holds ∙ ap (afterReading out scratch decide) (sym (read .2))) m
+        (ap (λ k. answered out scratch (decide k)) (read-content ticket e z) ∙ ap (afterReading out scratch decide) (sym (read-got ticket e z .2))) m
 
 module _ (bytes : List ℕ) {x : ReadRecord} (e : x ≡ wholeRecord bytes) (decide : State → Decision) where
   pub record-misread : {out scratch : List ℕ} {a : Answer} → (x .number ≡ 0 → ⊥) → a ≡ record { number = x .number; length = 0; total = 0 }

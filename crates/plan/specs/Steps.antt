@@ -18,9 +18,10 @@ use Rattle.temporal.specs.RunHolds as states-hold
 use Rattle.temporal.specs.LatestRun.{plan-for}
 use Rattle.network.specs.Stored.{at}
 use Rattle.ticket.specs.Writing.{content, stateOf}
+use Rattle.ticket.specs.Content.{in-events, in-rules}
 use Rattle.ticket.specs.declared.Ticket.{Ticket as Struct}
 use Rattle.ticket.specs.declared.Record.{Record}
-use Rattle.potentials.specs.Arrays.{in-events, in-rules, Within}
+use Rattle.potentials.specs.Arrays.{Within}
 use Rattle.windows.specs.Promises.{stateIn, Workspace, Committed}
 use Rattle.windows.specs.Settle.{Asked}
 use Rattle.latest.specs.Latest.{PlannedFor}

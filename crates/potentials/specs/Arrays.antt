@@ -17,6 +17,7 @@ use Rattle.temporal.specs.Run.{Valid, ValidRule}
 use Rattle.network.specs.Stored.{at}
 use Rattle.ticket.specs.Writing.{firsts, ownerIn, ruleIn, content}
 use Rattle.ticket.specs.WritingLaws.{length-firsts, firsts-tab, getD-firsts}
+use Rattle.ticket.specs.Content.{in-events, in-rules}
 use Rattle.ticket.specs.declared.Ticket.{Ticket}
 
 -- ---- what stands in the arrays
@@ -40,12 +41,6 @@ abbrev pub rule : temporal.Ticket → ℕ → Rule
 rule k j = getD (k .rules) j noRule
 
 module _ (t : Ticket) where
-  pub in-events : events (content t) ≡ t .events
-  in-events = length-firsts (t .events) (ownerIn t)
-
-  pub in-rules : length (content t .rules) ≡ t .rules
-  in-rules = length-firsts (t .rules) (ruleIn t)
-
   pub owner-in : (i : ℕ) → i < t .events → getD (content t .owners) i 0 ≡ at (t .owners) i
   owner-in i l = getD-firsts (t .events) (ownerIn t) 0 i l
 

@@ -1,7 +1,7 @@
 -- What the code has answered and written at each of its returns. Rests on `reasons`' Reasoning, on `ring` for what the search answers, and on `ticket` for
 -- what reading answers.
 use Prim.Native.Nat.{ℕ, _-_, _≤_}
-use mathlib.Core.Path.{_≡_, refl, sym, ap, subst, _∙_}
+use mathlib.Core.Path.{_≡_, sym, ap, subst, _∙_}
 use mathlib.Core.Bool.{true}
 use mathlib.Core.List.{List}
 use mathlib.Core.Logic.{_≢_}
@@ -13,13 +13,10 @@ use Rattle.temporal.specs.Ticket as temporal
 use Rattle.temporal.specs.Ticket.{events}
 use Rattle.temporal.specs.Distance.{consistent}
 use Rattle.temporal.specs.Run.{Valid}
-use Rattle.ticket.specs.Parser.{got, number, wholly}
-use Rattle.ticket.specs.Laws.{was-refused, was-got}
-use Rattle.ticket.specs.Format.{readTicket}
+use Rattle.ticket.specs.Parser.{number}
 use Rattle.ticket.specs.Writing.{content}
-use Rattle.ticket.specs.Stored.{pad, stored, answer, wholeTicket}
-use Rattle.ticket.specs.RoundTrip.{Bytes, written-read}
-use Rattle.ticket.specs.Agree.{content-stored}
+use Rattle.ticket.specs.Stored.{pad, stored, wholeTicket}
+use Rattle.ticket.specs.Content.{read-refused, read-got, read-content}
 use Rattle.ticket.specs.declared.ReadTicket.{ReadTicket}
 use Rattle.text.specs.Stores.{Puts}
 use Rattle.writing.specs.Stores.{sets-over}
@@ -93,20 +90,11 @@ module _ (k : temporal.Ticket) (v : Valid k) (labels roster : List ℕ) (l : wel
 module _ (ticket labels roster out : List ℕ) (room : 2200 ≤ length out) {x : ReadTicket} (e : x ≡ wholeTicket ticket) where
   pub ticket-misread : {a : Answer} → x .number ≢ 0 → a ≡ record { number = x .number; length = 0 } → Meets (reasoning ticket labels roster out) a out
   ticket-misread n q =
-      let k = was-refused (λ (y : ReadTicket). y .number) (answer 0) (λ k t. refl) (λ k. refl) (wholly readTicket ticket) x e n in
-      meets-refused (reasoning-read ticket labels roster out room ∙ ap (afterReading labels roster out) (k .1)) (q ∙ ap (λ (m : ℕ). record { number = m; length = 0 }) (k .2))
+      let c = read-refused ticket e n in
+      meets-refused (reasoning-read ticket labels roster out room ∙ ap (afterReading labels roster out) (c .1)) (q ∙ ap (λ (m : ℕ). record { number = m; length = 0 }) (c .2))
 
   module _ (z : x .number ≡ 0) where
-    read : (k : temporal.Ticket) × (rest : List ℕ) × (wholly readTicket ticket ≡ got k rest)
-    read = was-got (λ (y : ReadTicket). y .number) (answer 0) (λ k t. refl) (λ k. refl) (wholly readTicket ticket) x e z
-
-    holds : content (x .ticket) ≡ read .0
-    holds = ap (λ (y : ReadTicket). content (y .ticket)) (e ∙ ap (answer 0) (read .2)) ∙ content-stored (read .0)
-
-    pub ticket-read : Bytes ticket → Valid (content (x .ticket))
-    ticket-read b = subst Valid (sym holds) (written-read ticket (read .0) (read .1) b (read .2) .1)
-
     pub ticket-meets : {a : Answer} {out′ : List ℕ} → Meets (explaining (content (x .ticket)) labels roster out) a out′ → Meets (reasoning ticket labels roster out) a out′
     ticket-meets {a} {out′} m =
         subst (λ o. Meets o a out′)
-        (ap (λ k. explaining k labels roster out) holds ∙ ap (afterReading labels roster out) (sym (read .2)) ∙ sym (reasoning-read ticket labels roster out room)) m
+        (ap (λ k. explaining k labels roster out) (read-content ticket e z) ∙ ap (afterReading labels roster out) (sym (read-got ticket e z .2)) ∙ sym (reasoning-read ticket labels roster out room)) m

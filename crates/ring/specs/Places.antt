@@ -16,11 +16,12 @@ use Rattle.temporal.specs.Ticket as temporal
 use Rattle.temporal.specs.Ticket.{Rule, events}
 use Rattle.temporal.specs.Run.{Valid}
 use Rattle.ticket.specs.Writing.{ruleIn, content}
+use Rattle.ticket.specs.Content.{limits}
 use Rattle.ticket.specs.declared.Ticket.{Ticket}
 use Rattle.demands.specs.Cost.{bound-fits}
 use Rattle.paths.specs.Rules.{back, out, size, ruleAt, fromOf, toOf, boundOf}
 use Rattle.paths.specs.Walks.{rule-points, valid-points, bound-below, bound-above}
-use Rattle.paths.specs.Structs.{in-events, in-rules, written-in, back-in, out-in}
+use Rattle.paths.specs.Structs.{written-in, back-in, out-in}
 use Rattle.rings.specs.Costs.{cost, cost-back, cost-out, cost-most}
 
 -- ---- what stands in the arrays
@@ -113,16 +114,7 @@ filled-none k fs ts cs f t c =
 
 -- ---- the rules of a ticket's struct
 
--- the limits of a valid ticket, by its struct
-pub record Limits (t : Ticket) : Type 0 where
-  pub few : t .events ≤ 40
-  pub most : t .rules ≤ 256
-  pub high : t .horizon ≤ 1000000
-
 module _ (t : Ticket) where
-  pub limits : Valid (content t) → Limits t
-  limits v = record { few = omega (arith, in-events t, v .events-limit); most = omega (arith, in-rules t, v .rules-limit); high = v .horizon-limit }
-
   -- a written rule
   module _ (j : ℕ) (l : j < t .rules) where
     in-rule : ruleAt (content t) (j + 1) ≡ ruleIn t j
@@ -145,7 +137,7 @@ module _ (t : Ticket) where
         → c ≡ biased (getD (t .bound) j (pos 0)) → Filled (content t) (j + 1) (set fs (j + 1) f) (set ts (j + 1) d) (set cs (j + 1) c)
     unfolding cost
     filled-written {f = f} {d} {c} v h a b g =
-        let m = limits v in
+        let m = limits t v in
         filled-more (j + 1) f d c v h refl (omega arith) (a ∙ sym (ap (λ (r : Rule). r .from) in-rule)) (b ∙ sym (ap (λ (r : Rule). r .to) in-rule))
         (g ∙ sym (ap (λ (r : Rule). biased (r .bound)) in-rule))
 
@@ -165,7 +157,7 @@ module _ (t : Ticket) where
         → Filled (content t) (t .rules + 2 * i + 1) (set fs (t .rules + 2 * i + 1) (i + 1)) (set ts (t .rules + 2 * i + 1) 0)
         (set cs (t .rules + 2 * i + 1) 1000000)
     filled-back v h =
-        let m = limits v in
+        let m = limits t v in
         filled-more (t .rules + 2 * i + 1) (i + 1) 0 1000000 v h refl (omega arith) (sym (ap (λ (r : Rule). r .from) back-rule))
         (sym (ap (λ (r : Rule). r .to) back-rule))
         (sym (cost-back (content t) (t .rules + 2 * i + 1) (i + 1) back-rule))
@@ -174,7 +166,7 @@ module _ (t : Ticket) where
         → Filled (content t) (t .rules + 2 * (i + 1)) (set fs (t .rules + 2 * i + 1 + 1) 0) (set ts (t .rules + 2 * i + 1 + 1) (i + 1))
         (set cs (t .rules + 2 * i + 1 + 1) (1000000 + t .horizon))
     filled-out v h =
-        let m = limits v in
+        let m = limits t v in
         let e : t .rules + 2 * (i + 1) ≡ t .rules + 2 * i + 1 + 1 = omega arith in
         rw e (filled-more (t .rules + 2 * i + 1 + 1) 0 (i + 1) (1000000 + t .horizon) v h refl (omega arith) (sym (ap (λ (r : Rule). r .from) out-rule))
         (sym (ap (λ (r : Rule). r .to) out-rule))

@@ -15,11 +15,12 @@ use Rattle.temporal.specs.Ticket.{Rule, events}
 use Rattle.temporal.specs.Run.{Valid}
 use Rattle.ticket.specs.Writing.{ownerIn, content}
 use Rattle.ticket.specs.WritingLaws.{getD-firsts}
+use Rattle.ticket.specs.Content.{in-events, in-rules}
 use Rattle.ticket.specs.declared.Ticket.{Ticket}
 use Rattle.names.specs.Names.{wellFormed, nameAt}
 use Rattle.paths.specs.Rules.{fromOf, boundOf, Number}
 use Rattle.paths.specs.Walks.{rule-points, valid-points}
-use Rattle.paths.specs.Structs.{in-events, in-rules, written-in, back-in, out-in}
+use Rattle.paths.specs.Structs.{written-in, back-in, out-in}
 use Rattle.reasons.specs.Text.{atLine, pointLine, ruleLine, ringText}
 use Rattle.reasons.specs.Size.{bound-small}
 

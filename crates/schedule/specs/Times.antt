@@ -10,7 +10,8 @@ use Rattle.temporal.specs.Ticket.{Rule, time, Schedule}
 use Rattle.network.specs.Stored.{at}
 use Rattle.ticket.specs.declared.Ticket.{Ticket}
 use Rattle.ticket.specs.Writing.{content}
-use Rattle.potentials.specs.Arrays.{Given, in-events}
+use Rattle.ticket.specs.Content.{in-events}
+use Rattle.potentials.specs.Arrays.{Given}
 use Rattle.potentials.specs.Nodes.{close-self}
 use Rattle.demands.specs.Rules.{rule-of, of-rules, biased-rule, signed-rule, Obeyed}
 

@@ -14,7 +14,7 @@ use Rattle.temporal.specs.Table.{rows}
 use Rattle.ticket.specs.Parser.{Out, number, wholly}
 use Rattle.ticket.specs.Format.{readTicket}
 use Rattle.closure.specs.Matrix.{shown}
-use Rattle.closure.specs.Start.{start}
+use Rattle.closure.specs.Start.{firstEntries}
 use Rattle.closure.specs.Stops.{after}
 
 -- how many stops are taken: there are n + 1
@@ -23,7 +23,7 @@ taken k s = min s (events k + 1)
 
 -- the working entry from i to j after the first s stops, as the output says it
 unfoldable pub workingAt : Ticket → ℕ → ℕ → ℕ → ℤ
-workingAt k s i j = shown (after (events k) (start (k .horizon) (k .rules)) (taken k s) i j)
+workingAt k s i j = shown (after (events k) (firstEntries k) (taken k s) i j)
 
 -- the working entries, row 0 first, and what the output holds beyond them
 abbrev pub working : Ticket → ℕ → List ℤ → List ℤ

@@ -1,42 +1,34 @@
 -- What the numbers in the output are: on a ticket with a schedule each is the sum of the shortest path by the stops taken, or the largest number of all where
 -- there is no such path (02, change 3). Rests on closure's ShortestPaths.
-use Prim.Native.Nat.{ℕ, zero, suc, _+_, _*_, _-_, _≤_, _<_}
-use mathlib.Core.Path.{_≡_, refl, sym, ap, ap₂, subst, _∙_}
+use Prim.Native.Nat.{ℕ, _+_, _*_, _≤_, _<_}
+use mathlib.Core.Path.{_≡_, refl, sym, ap, subst, _∙_}
 use mathlib.Core.List.{List, _++_}
 use mathlib.Core.Logic.{_≢_}
 use native.Mathlib.Omega.{arith}
 use lib.Dec.{T}
 use lib.IntN.{ℤ, pos, subℕ}
-use lib.ListN.{length, getD, drop, List·getD-append}
-use lib.Seq.{getD-append-add, getD-drop}
+use lib.ListN.{drop}
 use lib.Signed.{_≤ℤ_}
-use Rattle.temporal.specs.Lists.{tab-cong}
 use Rattle.temporal.specs.Bound.{above, below}
 use Rattle.temporal.specs.Ticket.{Ticket, events}
 use Rattle.temporal.specs.Distance.{consistent, distance}
 use Rattle.temporal.specs.DistanceLaws.{parts, sub-le, sub-zero}
 use Rattle.temporal.specs.Run.{Valid}
-use Rattle.temporal.specs.Table.{rows, filled}
-use Rattle.temporal.specs.TableRows.{length-rows, rows-at}
+use Rattle.temporal.specs.Table.{filled}
+use Rattle.temporal.specs.TableRows.{rows-cong}
 use Rattle.paths.specs.Shortest.{Taken, Shortest, Unreached}
 use Rattle.closure.specs.Cases.{by-eq}
 use Rattle.closure.specs.Signed.{bias, lower}
 use Rattle.closure.specs.Matrix.{none, noPath, shown, Everywhere, shown-none, shown-some}
-use Rattle.closure.specs.Start.{start}
+use Rattle.closure.specs.Start.{firstEntries}
 use Rattle.closure.specs.Stops.{after}
-use Rattle.closure.specs.Steps.{cell}
-use Rattle.closure.specs.Written.{flat-below}
-use Rattle.closure.specs.ShortestPaths.{entries-hold, entries-low, entries-small, entries-distance}
+use Rattle.closure.specs.ShortestPaths.{entries-hold, entries-self, entries-low, entries-small, entries-distance}
 use Rattle.stops.specs.After.{taken, workingAt, working}
 
 -- the number z from i to j after the first s stops: "the shortest path, where there is one, whose inner points are stops already taken"
 pub record Entry (k : Ticket) (s i j : ℕ) (z : ℤ) : Type 0 where
   pub some : z ≢ noPath → Shortest k (Taken (events k) s) i j z
   pub nothing : z ≡ noPath → Unreached k (Taken (events k) s) i j
-
-rows-cong : (w m : ℕ) (f g : ℕ → ℕ → ℤ) → ((i j : ℕ) → i < m → j < w → f i j ≡ g i j) → rows w m f ≡ rows w m g
-rows-cong w zero f g h = refl
-rows-cong w (suc m) f g h = ap₂ _++_ (tab-cong w (f 0) (g 0) (λ j l. h 0 j (omega arith) l)) (rows-cong w m (λ i. f (suc i)) (λ i. g (suc i)) (λ i j l r. h (suc i) j (omega arith) r))
 
 -- a number that is shown of a path is not the one that is shown of none
 shown-apart : (x : ℕ) → x ≤ 43000000 → lower x ≡ noPath → ⊥
@@ -51,16 +43,21 @@ module _ (k : Ticket) (valid : Valid k) (has : T (consistent k)) where
       let few : taken k s ≤ events k + 1 = omega arith in
       let m = entries-hold k valid has (taken k s) few i j li lj in
       let small = entries-small k valid has (taken k s) few i j li lj in
-      by-eq (after (events k) (start (k .horizon) (k .rules)) (taken k s) i j) none
+      by-eq (after (events k) (firstEntries k) (taken k s) i j) none
       (λ e. rw (e, shown-none) (record { some = λ n. absurd (n refl); nothing = λ q. m .nothing e }))
       (λ n. rw (shown-some _ n) (record { some = λ q. m .some n; nothing = λ q. absurd (shown-apart _ (small n) q) }))
+
+  -- from a point to itself it is 0,
+  pub working-self : (s i : ℕ) → i ≤ events k → workingAt k s i i ≡ pos 0
+  unfolding workingAt
+  working-self s i li = rw (entries-self k valid has (taken k s) (omega arith) i li) (shown-some bias (λ e. omega arith))
 
   -- it is not below minus the horizon, nor above 41 millions
   pub working-range : (s : ℕ) → Everywhere (events k) (λ i j. workingAt k s i j ≢ noPath
       → (subℕ 0 (k .horizon) ≤ℤ workingAt k s i j) × (workingAt k s i j ≤ℤ pos 41000000))
   unfolding workingAt
   working-range s i j li lj n =
-      let x = after (events k) (start (k .horizon) (k .rules)) (taken k s) i j in
+      let x = after (events k) (firstEntries k) (taken k s) i j in
       let few : taken k s ≤ events k + 1 = omega arith in
       let some : x ≢ none = λ e. n (ap shown e ∙ shown-none) in
       let low = entries-low k valid has (taken k s) few i j li lj in
@@ -80,24 +77,3 @@ module _ (k : Ticket) (valid : Valid k) (has : T (consistent k)) where
     working-filled out =
         ap (λ xs. xs ++ drop ((events k + 1) * (events k + 1)) out)
         (rows-cong (events k + 1) (events k + 1) (workingAt k s) (distance k) (λ i j li lj. working-distance i j (omega arith) (omega arith)))
-
--- ---- places in the output
-
-module _ (k : Ticket) (s : ℕ) (out : List ℤ) where
-  table-length : length (rows (events k + 1) (events k + 1) (workingAt k s)) ≡ (events k + 1) * (events k + 1)
-  table-length = length-rows (events k + 1) (events k + 1) (workingAt k s)
-
-  pub working-cell : Everywhere (events k) (λ i j. cell (events k) (working k s out) i j ≡ workingAt k s i j)
-  working-cell i j li lj =
-      List·getD-append (rows (events k + 1) (events k + 1) (workingAt k s)) (drop ((events k + 1) * (events k + 1)) out) (pos 0) (i * (events k + 1) + j)
-      (omega (arith, table-length, flat-below (events k) i j li lj))
-      ∙ rows-at (events k + 1) (events k + 1) (workingAt k s) i j (omega arith) (omega arith)
-
-  pub working-beyond : (p : ℕ) → (events k + 1) * (events k + 1) ≤ p → getD (working k s out) p (pos 0) ≡ getD out p (pos 0)
-  working-beyond p l =
-      let m = (events k + 1) * (events k + 1) in
-      let split : m + (p - m) ≡ p = omega arith in
-      rw split at
-      (ap (λ q. getD (working k s out) (q + (p - m)) (pos 0)) (sym table-length)
-      ∙ getD-append-add (rows (events k + 1) (events k + 1) (workingAt k s)) (drop m out) (p - m) (pos 0)
-      ∙ getD-drop m out (p - m) (pos 0))

@@ -1,8 +1,8 @@
 -- What the code has answered and written at each of its returns. Rests on After, on `closure`'s Answers for the entries, and on `ticket` for what reading
 -- answers.
 use Prim.Native.Nat.{ℕ, _+_, _*_, _≤_, min}
-use mathlib.Core.Path.{_≡_, refl, sym, ap, subst, _∙_}
-use mathlib.Core.Bool.{Bool, true}
+use mathlib.Core.Path.{_≡_, sym, ap, subst, _∙_}
+use mathlib.Core.Bool.{Bool}
 use mathlib.Core.List.{List, _++_}
 use mathlib.Core.Logic.{_≢_}
 use native.Mathlib.Omega.{arith}
@@ -10,25 +10,20 @@ use lib.Dec.{T}
 use lib.IntN.{ℤ}
 use lib.ListN.{length, drop}
 use Rattle.temporal.specs.Lists.{All, T-true}
-use Rattle.temporal.specs.Ticket as temporal
-use Rattle.temporal.specs.Ticket.{Rule, events}
+use Rattle.temporal.specs.Ticket.{events}
 use Rattle.temporal.specs.Distance.{consistent}
 use Rattle.temporal.specs.Run.{ValidRule, Valid}
 use Rattle.temporal.specs.Table.{rows}
-use Rattle.ticket.specs.Parser.{got, number, wholly}
-use Rattle.ticket.specs.Laws.{was-refused, was-got}
-use Rattle.ticket.specs.Format.{readTicket}
+use Rattle.ticket.specs.Parser.{number}
 use Rattle.ticket.specs.Writing.{ruleIn, content}
 use Rattle.ticket.specs.WritingLaws.{firsts-tab}
-use Rattle.ticket.specs.Stored.{answer, wholeTicket}
-use Rattle.ticket.specs.RoundTrip.{Bytes, written-read}
-use Rattle.ticket.specs.Agree.{content-stored}
+use Rattle.ticket.specs.Stored.{wholeTicket}
+use Rattle.ticket.specs.Content.{in-events, limits, read-refused, read-got, read-content}
 use Rattle.ticket.specs.declared.Ticket.{Ticket}
 use Rattle.ticket.specs.declared.ReadTicket.{ReadTicket}
-use Rattle.paths.specs.Structs.{in-events, in-rules}
 use Rattle.closure.specs.Cases.{by-bool}
 use Rattle.closure.specs.Matrix.{Matrix, none, shown, Everywhere}
-use Rattle.closure.specs.Start.{start}
+use Rattle.closure.specs.Start.{firstEntries}
 use Rattle.closure.specs.Stops.{after, Floors, AboveFloors}
 use Rattle.closure.specs.Steps.{Closed, Written}
 use Rattle.closure.specs.Answers.{start-floors, start-top, closed-consistent, closed-none, start-kept, after-first, after-small, written-filled}
@@ -39,25 +34,19 @@ use Rattle.stops.specs.After.{workingAt, worked, afterReading, tableAfte
 -- ---- a ticket that was read, as arrays
 
 module _ (t : Ticket) (v : Valid (content t)) where
-  pub events-few : t .events ≤ 40
-  events-few = omega (arith, in-events t, v .events-limit)
-
-  pub rules-few : t .rules ≤ 256
-  rules-few = omega (arith, in-rules t, v .rules-limit)
-
   -- the arrays hold its rules
   pub arrays-hold : rulesOf (t .rules) (t .from) (t .to) (t .bound) ≡ content t .rules
   arrays-hold = sym (firsts-tab (t .rules) (ruleIn t))
 
   pub arrays-valid : ValidArrays 40 (t .rules) (t .from) (t .to) (t .bound)
   arrays-valid =
-      valid-arrays (t .events) (t .rules) (t .from) (t .to) (t .bound) events-few
+      valid-arrays (t .events) (t .rules) (t .from) (t .to) (t .bound) (limits t v .few)
       (subst (λ n. All (ValidRule n) (rulesOf (t .rules) (t .from) (t .to) (t .bound))) (in-events t) (subst (All (ValidRule (events (content t)))) (sym arrays-hold) (v .rules-valid)))
 
   -- the entries D before the first stop
-  module _ (D : Matrix) (first : Everywhere 40 (λ i j. D i j ≡ start (content t .horizon) (content t .rules) i j)) where
-    same : Everywhere (t .events) (λ i j. D i j ≡ start (content t .horizon) (content t .rules) i j)
-    same i j li lj = first i j (omega (arith, events-few)) (omega (arith, events-few))
+  module _ (D : Matrix) (first : Everywhere 40 (λ i j. D i j ≡ firstEntries (content t) i j)) where
+    same : Everywhere (t .events) (λ i j. D i j ≡ firstEntries (content t) i j)
+    same i j li lj = first i j (omega (arith, limits t v .few)) (omega (arith, limits t v .few))
 
     pub first-floors : Floors (t .events) D
     first-floors = start-floors (content t) v (t .events) (in-events t) D same
@@ -88,7 +77,7 @@ module _ (t : Ticket) (v : Valid (content t)) where
 
         pub stops-written : (out out′ : List ℤ) → 1681 ≤ length out → Written (t .events) R out out′ → (0, out′) ≡ worked (content t) s out
         stops-written out out′ room w =
-            ap (λ (xs : List ℤ). (0, xs)) (written-filled (t .events) (workingAt (content t) s) R out out′ events-few room shows w)
+            ap (λ (xs : List ℤ). (0, xs)) (written-filled (t .events) (workingAt (content t) s) R out out′ (limits t v .few) room shows w)
             ∙ ap (λ (n : ℕ). (0, rows (n + 1) (n + 1) (workingAt (content t) s) ++ drop ((n + 1) * (n + 1)) out)) (sym (in-events t))
             ∙ sym (worked-some (content t) s out (T-true (consistent (content t)) has))
 
@@ -97,18 +86,9 @@ module _ (t : Ticket) (v : Valid (content t)) where
 module _ (ticket : List ℕ) (s : ℕ) (out : List ℤ) (room : 1681 ≤ length out) {x : ReadTicket} (e : x ≡ wholeTicket ticket) where
   pub ticket-misread : x .number ≢ 0 → (x .number, out) ≡ tableAfter ticket s out
   ticket-misread n =
-      let k = was-refused (λ (y : ReadTicket). y .number) (answer 0) (λ k t. refl) (λ k. refl) (wholly readTicket ticket) x e n in
-      ap (λ (m : ℕ). (m, out)) (k .2) ∙ sym (after-read ticket s out room ∙ ap (afterReading s out) (k .1))
+      let c = read-refused ticket e n in
+      ap (λ (m : ℕ). (m, out)) (c .2) ∙ sym (after-read ticket s out room ∙ ap (afterReading s out) (c .1))
 
-  module _ (z : x .number ≡ 0) where
-    read : (k : temporal.Ticket) × (rest : List ℕ) × (wholly readTicket ticket ≡ got k rest)
-    read = was-got (λ (y : ReadTicket). y .number) (answer 0) (λ k t. refl) (λ k. refl) (wholly readTicket ticket) x e z
-
-    holds : content (x .ticket) ≡ read .0
-    holds = ap (λ (y : ReadTicket). content (y .ticket)) (e ∙ ap (answer 0) (read .2)) ∙ content-stored (read .0)
-
-    pub ticket-read : Bytes ticket → Valid (content (x .ticket))
-    ticket-read b = subst Valid (sym holds) (written-read ticket (read .0) (read .1) b (read .2) .1)
-
-    pub ticket-worked : worked (content (x .ticket)) s out ≡ tableAfter ticket s out
-    ticket-worked = ap (λ k. worked k s out) holds ∙ ap (afterReading s out) (sym (read .2)) ∙ sym (after-read ticket s out room)
+  pub ticket-worked : x .number ≡ 0 → worked (content (x .ticket)) s out ≡ tableAfter ticket s out
+  ticket-worked z =
+      ap (λ k. worked k s out) (read-content ticket e z) ∙ ap (afterReading s out) (sym (read-got ticket e z .2)) ∙ sym (after-read ticket s out room)

@@ -15,14 +15,15 @@ use Rattle.temporal.specs.Ticket.{Ticket, events, Schedule}
 use Rattle.temporal.specs.Distance.{consistent, consistent-has}
 use Rattle.temporal.specs.Run.{Valid}
 use Rattle.temporal.specs.Table.{filled}
+use Rattle.temporal.specs.TableRows.{rows-first, rows-beyond}
 use Rattle.ticket.specs.Parser.{Cause, number, got, refused, wholly}
 use Rattle.ticket.specs.Laws.{number-some}
 use Rattle.ticket.specs.Format.{readTicket}
 use Rattle.ticket.specs.RoundTrip.{Bytes, written-read, answered}
 use Rattle.closure.specs.Matrix.{Everywhere}
 use Rattle.closure.specs.Steps.{cell}
-use Rattle.stops.specs.After.{taken, working, worked, afterReading, tableAfter, after-short, after-read, worked-none, worked-some}
-use Rattle.stops.specs.Meant.{Entry, working-cell, working-beyond, working-means, working-filled}
+use Rattle.stops.specs.After.{taken, workingAt, working, worked, afterReading, tableAfter, after-short, after-read, worked-none, worked-some}
+use Rattle.stops.specs.Meant.{Entry, working-means, working-filled}
 
 -- the bytes hold the ticket k, and nothing after it
 abbrev pub Holds : List ℕ → Ticket → Type 0
@@ -115,8 +116,8 @@ module _ (ticket : List ℕ) (s : ℕ) (out : List ℤ) where
           holds = u .holds;
           times = r .0;
           schedule = r .1;
-          entries = λ i j li lj. subst (Entry k (taken k s) i j) (sym (ap (λ xs. cell (events k) xs i j) e ∙ working-cell k s out i j li lj)) (working-means k v (u .has) s i j li lj);
-          beyond = λ p l. ap (λ xs. getD xs p (pos 0)) e ∙ working-beyond k s out p l;
+          entries = λ i j li lj. subst (Entry k (taken k s) i j) (sym (ap (λ xs. cell (events k) xs i j) e ∙ rows-first (events k + 1) (workingAt k s) out i j (omega arith) (omega arith))) (working-means k v (u .has) s i j li lj);
+          beyond = λ p l. ap (λ xs. getD xs p (pos 0)) e ∙ rows-beyond (events k + 1) (workingAt k s) out p l;
           finished = λ l. e ∙ working-filled k v (u .has) s l out;
         }
 

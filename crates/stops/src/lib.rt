@@ -8,7 +8,7 @@ ghost use Rattle.temporal.specs.Distance.{consistent};
 ghost use Rattle.temporal.specs.Run.{Valid};
 ghost use Rattle.ticket.specs.Writing.{content};
 ghost use Rattle.closure.specs.Matrix.{entry, Everywhere};
-ghost use Rattle.closure.specs.Start as start;
+ghost use Rattle.closure.specs.Start.{firstEntries};
 ghost use Rattle.stops.specs.After.{worked, tableAfter};
 use table::OUTPUT;
 use ticket::Ticket;
@@ -16,7 +16,7 @@ use ticket::Ticket;
 // The entries before the first stop.
 fn first_entries(t: Ticket) -> [u64; 1681]
     requires { ⌜ Valid (content t) ⌝ }
-    ensures { λ r. ⌜ (length r ≡ 1681) × Everywhere 40 (λ i j. entry r i j ≡ start.start (content t .horizon) (content t .rules) i j) ⌝ }
+    ensures { λ r. ⌜ (length r ≡ 1681) × Everywhere 40 (λ i j. entry r i j ≡ firstEntries (content t) i j) ⌝ }
 {
     let from = t.from;
     let to = t.to;

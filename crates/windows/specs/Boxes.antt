@@ -15,7 +15,8 @@ use Rattle.temporal.specs.Plan.{flagged}
 use Rattle.temporal.specs.FitSets.{KeepsAt, Grows}
 use Rattle.ticket.specs.declared.Ticket.{Ticket}
 use Rattle.ticket.specs.Writing.{content}
-use Rattle.potentials.specs.Arrays.{in-events, Given}
+use Rattle.ticket.specs.Content.{in-events}
+use Rattle.potentials.specs.Arrays.{Given}
 use Rattle.potentials.specs.Nodes.{by-nodes, potentialOf, potential-open, potential-close}
 use Rattle.demands.specs.Rules.{ends-obeyed, obeyed-ends}
 use Rattle.demands.specs.Network.{Meeting}

@@ -22,7 +22,8 @@ use Rattle.network.specs.Lists.{zeros-at}
 use Rattle.network.specs.Stored.{at}
 use Rattle.ticket.specs.declared.Ticket.{Ticket}
 use Rattle.ticket.specs.Writing.{content}
-use Rattle.potentials.specs.Arrays.{windowList, flagList, firsts-set, length-flag-list, in-events, window-at, flag-at, Given, Lie, Within}
+use Rattle.ticket.specs.Content.{in-events}
+use Rattle.potentials.specs.Arrays.{windowList, flagList, firsts-set, length-flag-list, window-at, flag-at, Given, Lie, Within}
 use Rattle.potentials.specs.Nodes.{closeNode, close-self, by-nodes, potentialOf}
 use Rattle.potentials.specs.Pairs.{Pairs, Limited, pairs-potential, replicate-most}
 use Rattle.demands.specs.Network.{Meeting, meeting-same, Limits}

@@ -6,7 +6,7 @@ use borrow.Author.Needs.{needs}
 use mir.Syntax.{w32}
 use mir.ValLaws.{toZ-ofZ}
 use Rattle.ticket.specs.Writing.{ruleIn}
-use Rattle.potentials.specs.Arrays.{in-rules}
+use Rattle.ticket.specs.Content.{in-rules}
 use Rattle.demands.specs.Rules.{tests-yes, tests-no}
 use Rattle.mirror.specs.Cut.{Possible}
 use Rattle.mirror.specs.Structs.{rule-valid, valid-fits, rules-all, rules-each}

@@ -5,7 +5,7 @@ use native.Mathlib.Omega.{arith}
 use borrow.Author.Needs.{needs}
 use mir.Syntax.{w32}
 use mir.ValLaws.{toZ-ofZ}
-use Rattle.potentials.specs.Arrays.{in-rules}
+use Rattle.ticket.specs.Content.{in-rules}
 use Rattle.mirror.specs.Structs.{Bounds, replaced-none, replaced-more, rule-valid, valid-fits}
 use Rattle.mirror.proofs.mirror_bounds.Statement.{statement}
 use Rattle.mirror.proofs.mirror_bounds.Tie as tie

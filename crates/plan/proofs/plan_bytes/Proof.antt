@@ -1,7 +1,8 @@
 -- `plan::plan_bytes` meets its contract: a refused reading answers its number, and what was read is planned. Assumes nothing.
 use native.Mathlib.Omega.{arith}
 use Rattle.temporal.specs.Plan.{planFor}
-use Rattle.plan.specs.Meets.{ticket-misread, ticket-read, ticket-meets}
+use Rattle.ticket.specs.Content.{read-valid}
+use Rattle.plan.specs.Meets.{ticket-misread, ticket-meets}
 use borrow.Author.Needs.{needs}
 use Rattle.plan.proofs.plan_bytes.Statement.{statement}
 use Rattle.plan.proofs.plan_bytes.Tie as tie
@@ -24,7 +25,7 @@ plan-ticket-requires c κs =
     let after-read-ticket : tie.After-read-ticket = search needs in
     let known : tie.After-shared-slice-known = search needs in
     let entry : tie.Start = search needs in (
-      ticket-read (entry .args .ticket .now) (after-read-ticket .read-ticket .ensures) (parsed .if1 .left)
+      read-valid (entry .args .ticket .now) (after-read-ticket .read-ticket .ensures) (parsed .if1 .left)
           (λ i. omega (arith, known .shared-slice-known .given i)),
       entry .pre,
     )

@@ -6,8 +6,8 @@ use borrow.Author.Tests.{not-true, not-false}
 use borrow.Author.Needs.{needs}
 use Rattle.temporal.specs.Ticket.{events}
 use Rattle.ticket.specs.Writing.{content}
+use Rattle.ticket.specs.Content.{in-events}
 use Rattle.names.specs.Names.{wellFormed}
-use Rattle.paths.specs.Structs.{in-events}
 use Rattle.reasons.specs.Reasoning.{unlisted-labels, unlisted-roster}
 use Rattle.reason.specs.Steps.{meets-refused, found-most, found-long, found-none, found-numbers, found-fits, found-printed}
 use Rattle.reason.proofs.explain.Statement.{statement}

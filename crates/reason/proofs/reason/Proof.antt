@@ -1,8 +1,9 @@
 -- `reason::reason` meets its contract: 10 first, then a refused reading answers its number, and what was read is explained. Assumes nothing.
 use native.Mathlib.Omega.{arith}
 use borrow.Author.Needs.{needs}
+use Rattle.ticket.specs.Content.{read-valid}
 use Rattle.reasons.specs.Reasoning.{reasoning-short}
-use Rattle.reason.specs.Steps.{meets-refused, ticket-misread, ticket-read, ticket-meets}
+use Rattle.reason.specs.Steps.{meets-refused, ticket-misread, ticket-meets}
 use Rattle.reason.proofs.reason.Statement.{statement}
 use Rattle.reason.proofs.reason.Tie as tie
 
@@ -26,7 +27,7 @@ explain-requires c κs =
     let known : tie.After-shared-slice-known = search needs in
     let entry : tie.Start = search needs in
     let a = entry .args in (
-      ticket-read (a .ticket .now) (a .labels .now) (a .roster .now) (a .out .now) (omega arith) (reread .read-ticket .ensures) (parsed .if2 .left)
+      read-valid (a .ticket .now) (reread .read-ticket .ensures) (parsed .if2 .left)
           (λ i. omega (arith, known .shared-slice-known .given i)),
       omega arith,
     )

@@ -2,8 +2,9 @@
 use native.Mathlib.Omega.{arith}
 use mathlib.Core.Path.{refl}
 use borrow.Author.Needs.{needs}
-use Rattle.paths.specs.Structs.{in-events, in-size}
-use Rattle.ring.specs.Places.{limits, filled-none}
+use Rattle.ticket.specs.Content.{in-events, limits}
+use Rattle.paths.specs.Structs.{in-size}
+use Rattle.ring.specs.Places.{filled-none}
 use Rattle.ring.proofs.ring.Statement.{statement}
 use Rattle.ring.proofs.ring.Tie as tie
 

@@ -1,15 +1,16 @@
 -- `stops::first_entries` meets its contract: the arrays hold the ticket's rules. Assumes nothing.
 use mathlib.Core.Path.{ap, _∙_}
 use borrow.Author.Needs.{needs}
+use Rattle.ticket.specs.Content.{limits}
 use Rattle.closure.specs.Start.{start}
-use Rattle.stops.specs.Steps.{rules-few, arrays-hold, arrays-valid}
+use Rattle.stops.specs.Steps.{arrays-hold, arrays-valid}
 use Rattle.stops.proofs.first_entries.Statement.{statement}
 use Rattle.stops.proofs.first_entries.Tie as tie
 
 ruled-requires : tie.Need-ruled-requires
 ruled-requires c κs =
     let entry : tie.Start = search needs in
-    ((entry .pre .horizon-limit, rules-few (entry .args .t) (entry .pre)), arrays-valid (entry .args .t) (entry .pre))
+    ((entry .pre .horizon-limit, limits (entry .args .t) (entry .pre) .most), arrays-valid (entry .args .t) (entry .pre))
 
 returns : tie.Need-returns
 returns c =

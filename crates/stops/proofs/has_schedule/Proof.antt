@@ -1,7 +1,8 @@
 -- `stops::has_schedule` meets its contract: all stops tell whether there is a schedule. Assumes nothing.
 use borrow.Author.Needs.{needs}
+use Rattle.ticket.specs.Content.{limits}
 use Rattle.closure.specs.Matrix.{entry}
-use Rattle.stops.specs.Steps.{events-few, first-floors, first-top, closed-tells}
+use Rattle.stops.specs.Steps.{first-floors, first-top, closed-tells}
 use Rattle.stops.proofs.has_schedule.Statement.{statement}
 use Rattle.stops.proofs.has_schedule.Tie as tie
 
@@ -12,7 +13,7 @@ closure-requires c κs =
     let t = s .args .t in
     let D = entry (first .first-entries .result) in
     let given = first .first-entries .ensures in
-    ((events-few t (s .pre), given .0), (first-floors t (s .pre) D (given .1), first-top t (s .pre) D (given .1)))
+    ((limits t (s .pre) .few, given .0), (first-floors t (s .pre) D (given .1), first-top t (s .pre) D (given .1)))
 
 returns : tie.Need-returns
 returns c =

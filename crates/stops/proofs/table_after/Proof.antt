@@ -2,8 +2,9 @@
 use mathlib.Core.Path.{sym, _∙_}
 use native.Mathlib.Omega.{arith}
 use borrow.Author.Needs.{needs}
+use Rattle.ticket.specs.Content.{read-valid}
 use Rattle.stops.specs.After.{after-short}
-use Rattle.stops.specs.Steps.{ticket-misread, ticket-read, ticket-worked}
+use Rattle.stops.specs.Steps.{ticket-misread, ticket-worked}
 use Rattle.stops.proofs.table_after.Statement.{statement}
 use Rattle.stops.proofs.table_after.Tie as tie
 
@@ -27,7 +28,7 @@ work-requires c κs =
     let known : tie.After-shared-slice-known = search needs in
     let entry : tie.Start = search needs in
     let a = entry .args in
-    (ticket-read (a .ticket .now) (a .stops) (a .out .now) (omega arith) (reread .read-ticket .ensures) (parsed .if2 .left) (λ i. omega (arith, known .shared-slice-known .given i)), omega arith)
+    (read-valid (a .ticket .now) (reread .read-ticket .ensures) (parsed .if2 .left) (λ i. omega (arith, known .shared-slice-known .given i)), omega arith)
 
 returns-3 : tie.Need-returns-3
 returns-3 c =

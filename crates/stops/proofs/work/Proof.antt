@@ -7,10 +7,11 @@ use borrow.Author.Tests.{not-true, not-false}
 use lib.Dec.{T}
 use Rattle.temporal.specs.Distance.{consistent}
 use Rattle.ticket.specs.Writing.{content}
+use Rattle.ticket.specs.Content.{limits}
 use Rattle.closure.specs.Matrix.{Matrix, entry, Everywhere}
 use Rattle.closure.specs.Stops.{after}
 use Rattle.stops.specs.After.{worked-none}
-use Rattle.stops.specs.Steps.{events-few, first-top, stops-kept, stops-small, stops-written}
+use Rattle.stops.specs.Steps.{first-top, stops-kept, stops-small, stops-written}
 use Rattle.stops.proofs.work.Statement.{statement}
 use Rattle.stops.proofs.work.Tie as tie
 
@@ -35,7 +36,7 @@ returns c =
     sym (worked-none (content (s .args .t)) (s .args .stops) (s .args .out .now) (sym (c .before .has-schedule .ensures) ∙ not-true _ (c .if1 .taken)))
 
 add-lesser : tie.Need-add-lesser
-add-lesser c = let s = c .before .before in record { fits = omega (arith, events-few (s .args .t) (s .pre .0)) }
+add-lesser c = let s = c .before .before in record { fits = omega (arith, limits (s .args .t) (s .pre .0) .few) }
 
 take-stops-requires : tie.Need-take-stops-requires
 take-stops-requires c κs =
@@ -43,7 +44,7 @@ take-stops-requires c κs =
     let s = e .before .before .before .before in
     let t = s .args .t in
     let given = e .first-entries .ensures in (
-      (events-few t (s .pre .0), omega (arith, taken e), given .0),
+      (limits t (s .pre .0) .few, omega (arith, taken e), given .0),
       (rw (taken e) (stops-kept t (s .pre .0) (first e) (given .1) (has (e .before .before)) (asked e)), first-top t (s .pre .0) (first e) (given .1)),
     )
 
@@ -58,7 +59,7 @@ write-requires c κs =
     let e = w .before .before in
     let s = e .before .before .before .before in
     let t = s .args .t in (
-      (events-few t (s .pre .0), omega arith),
+      (limits t (s .pre .0) .few, omega arith),
       stops-small t (s .pre .0) (first e) (e .first-entries .ensures .1) (has (e .before .before)) (asked e) (entry (w .take-stops .last .0)) (after-taken w),
     )
 
