@@ -15,11 +15,12 @@ use Rattle.temporal.specs.Lists.{T-true, T-false, below-or-not}
 use Rattle.temporal.specs.Ticket.{Ticket, Schedule, events}
 use Rattle.temporal.specs.Distance.{consistent, consistent-has}
 use Rattle.temporal.specs.Run.{Valid}
-use Rattle.ticket.specs.Parser.{Cause, number, got, refused, wholly}
+use Rattle.ticket.specs.Parser.{Cause, number, refused, wholly}
 use Rattle.ticket.specs.Laws.{number-some, number-not-nine}
 use Rattle.ticket.specs.Format.{readTicket}
 use Rattle.ticket.specs.Writing.{over}
 use Rattle.ticket.specs.RoundTrip.{Bytes, written-read, answered}
+use Rattle.ticket.specs.Content.{HoldsTicket}
 use Rattle.names.specs.Names.{wellFormed}
 use Rattle.paths.specs.Walks.{valid-points}
 use Rattle.rings.specs.Ring.{ring}
@@ -35,21 +36,17 @@ pub record Listed (k : Ticket) (labels roster : List ℕ) : Type 0 where
   pub labelled : wellFormed labels (events k) ≡ true
   pub known : wellFormed roster 5 ≡ true
 
--- the bytes hold the ticket k, and nothing after it
-abbrev pub Holds : List ℕ → Ticket → Type 0
-Holds ticket k = wholly readTicket ticket ≡ got k []
-
 -- x is the number of the first cause to refuse: 10, then 1 to 8 as the ticket is read, then 16, then 17
 pub data Unexplained (ticket labels roster out : List ℕ) (x : ℕ) : Type 0 where
   short : x ≡ 10 → length out < 2200 → Unexplained ticket labels roster out x
   unread : (c : Cause) → x ≡ number c → 2200 ≤ length out → wholly readTicket ticket ≡ refused c → Unexplained ticket labels roster out x
-  unlisted : (k : Ticket) → x ≡ 16 → 2200 ≤ length out → Holds ticket k → ¬ Listed k labels roster → Unexplained ticket labels roster out x
-  possible : (k : Ticket) → x ≡ 17 → 2200 ≤ length out → Holds ticket k → Listed k labels roster → (ts : List ℕ) → Schedule k ts → Unexplained ticket labels roster out x
+  unlisted : (k : Ticket) → x ≡ 16 → 2200 ≤ length out → HoldsTicket ticket k → ¬ Listed k labels roster → Unexplained ticket labels roster out x
+  possible : (k : Ticket) → x ≡ 17 → 2200 ≤ length out → HoldsTicket ticket k → Listed k labels roster → (ts : List ℕ) → Schedule k ts → Unexplained ticket labels roster out x
 
 -- the ticket k has no schedule, and the ring of rules that 02 asks for stands at the start of the output, with nothing else written
 pub record Explained (ticket labels roster out : List ℕ) (o : Outcome) (k : Ticket) (rules : List ℕ) : Type 0 where
   pub room : 2200 ≤ length out
-  pub holds : Holds ticket k
+  pub holds : HoldsTicket ticket k
   pub lists : Listed k labels roster
   pub none : (ts : List ℕ) → ¬ Schedule k ts
   pub printed : Printed k rules
@@ -81,7 +78,7 @@ module _ (ticket labels roster out : List ℕ) where
   abbrev answer : Outcome
   answer = reasoning ticket labels roster out
 
-  module _ (room : 2200 ≤ length out) (k : Ticket) (h : Holds ticket k) where
+  module _ (room : 2200 ≤ length out) (k : Ticket) (h : HoldsTicket ticket k) where
     explains : answer ≡ explaining k labels roster out
     explains = reasoning-read ticket labels roster out room ∙ ap (afterReading labels roster out) h
 
@@ -112,7 +109,7 @@ module _ (ticket labels roster out : List ℕ) where
   -- no cause applies
   record Unrefused (k : Ticket) : Type 0 where
     room : 2200 ≤ length out
-    holds : Holds ticket k
+    holds : HoldsTicket ticket k
     lists : Listed k labels roster
     none : ¬ T (consistent k)
 
@@ -122,18 +119,18 @@ module _ (ticket labels roster out : List ℕ) where
   decide : Decision
   decide = ⊎-elim (λ (l : length out < 2200). inl (10, short refl l)) (λ (l : 2200 ≤ length out). read l (answered readTicket ticket)) (below-or-not (length out) 2200)
     where
-      scheduled : 2200 ≤ length out → (k : Ticket) → Holds ticket k → Listed k labels roster → (b : Bool) → consistent k ≡ b → Decision
+      scheduled : 2200 ≤ length out → (k : Ticket) → HoldsTicket ticket k → Listed k labels roster → (b : Bool) → consistent k ≡ b → Decision
       scheduled l k h f true e =
           let s = consistent-has k .0 (rw e tt) in
           inl (17, possible k refl l h f (s .0) (s .1))
       scheduled l k h f false e = inr (k, record { room = l; holds = h; lists = f; none = λ t. subst T e t })
 
-      by-lists : 2200 ≤ length out → (k : Ticket) → Holds ticket k → Listed k labels roster ⊎ Broken k labels roster → Decision
+      by-lists : 2200 ≤ length out → (k : Ticket) → HoldsTicket ticket k → Listed k labels roster ⊎ Broken k labels roster → Decision
       by-lists l k h (inl f) = scheduled l k h f (consistent k) refl
       by-lists l k h (inr (inl e)) = inl (16, unlisted k refl l h (λ f. not-both (wellFormed labels (events k)) (f .labelled) e))
       by-lists l k h (inr (inr e)) = inl (16, unlisted k refl l h (λ f. not-both (wellFormed roster 5) (f .known) (e .1)))
 
-      read : 2200 ≤ length out → ((k : Ticket) × Holds ticket k) ⊎ ((c : Cause) × (wholly readTicket ticket ≡ refused c)) → Decision
+      read : 2200 ≤ length out → ((k : Ticket) × HoldsTicket ticket k) ⊎ ((c : Cause) × (wholly readTicket ticket ≡ refused c)) → Decision
       read l (inl r) = by-lists l (r .0) (r .1) (test-lists (r .0) labels roster)
       read l (inr r) = inl (number (r .0), unread (r .0) refl l (r .1))
 
@@ -208,7 +205,7 @@ module _ (ticket labels roster out : List ℕ) where
       rw (e .length-is, e .out-is, take-append-seam) (read-back k labels roster rules (e .lists .labelled) (e .lists .known))
 
   -- a ticket that is read, with its lists, gets the ring exactly where no schedule exists, and 17 exactly where one does
-  pub ring-or-schedule : (k : Ticket) → 2200 ≤ length out → Holds ticket k → Listed k labels roster
+  pub ring-or-schedule : (k : Ticket) → 2200 ≤ length out → HoldsTicket ticket k → Listed k labels roster
       → ((answer .number ≡ 0) ↔ ((ts : List ℕ) → ¬ Schedule k ts)) × ((answer .number ≡ 17) ↔ ((ts : List ℕ) × Schedule k ts))
   ring-or-schedule k l h f = ((no-schedule, ring-is), (schedule, λ s. seventeen (s .0) (s .1)))
     where

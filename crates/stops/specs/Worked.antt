@@ -16,29 +16,26 @@ use Rattle.temporal.specs.Distance.{consistent, consistent-has}
 use Rattle.temporal.specs.Run.{Valid}
 use Rattle.temporal.specs.Table.{filled}
 use Rattle.temporal.specs.TableRows.{rows-first, rows-beyond}
-use Rattle.ticket.specs.Parser.{Cause, number, got, refused, wholly}
+use Rattle.ticket.specs.Parser.{Cause, number, refused, wholly}
 use Rattle.ticket.specs.Laws.{number-some}
 use Rattle.ticket.specs.Format.{readTicket}
 use Rattle.ticket.specs.RoundTrip.{Bytes, written-read, answered}
+use Rattle.ticket.specs.Content.{HoldsTicket}
 use Rattle.closure.specs.Matrix.{Everywhere}
 use Rattle.closure.specs.Steps.{cell}
 use Rattle.stops.specs.After.{taken, workingAt, working, worked, afterReading, tableAfter, after-short, after-read, worked-none, worked-some}
 use Rattle.stops.specs.Meant.{Entry, working-means, working-filled}
 
--- the bytes hold the ticket k, and nothing after it
-abbrev pub Holds : List ℕ → Ticket → Type 0
-Holds ticket k = wholly readTicket ticket ≡ got k []
-
 -- x is the number of the first cause to refuse: 10, then 1 to 8 as the ticket is read, then 9
 pub data Unworked (ticket : List ℕ) (out : List ℤ) (x : ℕ) : Type 0 where
   short : x ≡ 10 → length out < 1681 → Unworked ticket out x
   unread : (c : Cause) → x ≡ number c → 1681 ≤ length out → wholly readTicket ticket ≡ refused c → Unworked ticket out x
-  impossible : (k : Ticket) → x ≡ 9 → 1681 ≤ length out → Holds ticket k → ((ts : List ℕ) → ¬ Schedule k ts) → Unworked ticket out x
+  impossible : (k : Ticket) → x ≡ 9 → 1681 ≤ length out → HoldsTicket ticket k → ((ts : List ℕ) → ¬ Schedule k ts) → Unworked ticket out x
 
 -- the ticket k has a schedule; the output holds the working entries after the first s stops, row by row, and beyond them what it held before
 pub record Worked (ticket : List ℕ) (s : ℕ) (out out′ : List ℤ) (k : Ticket) : Type 0 where
   pub room : 1681 ≤ length out
-  pub holds : Holds ticket k
+  pub holds : HoldsTicket ticket k
   pub times : List ℕ
   pub schedule : Schedule k times
   pub entries : Everywhere (events k) (λ i j. Entry k (taken k s) i j (cell (events k) out′ i j))
@@ -49,7 +46,7 @@ module _ (ticket : List ℕ) (s : ℕ) (out : List ℤ) where
   abbrev answer : ℕ × List ℤ
   answer = tableAfter ticket s out
 
-  works : 1681 ≤ length out → (k : Ticket) → Holds ticket k → answer ≡ worked k s out
+  works : 1681 ≤ length out → (k : Ticket) → HoldsTicket ticket k → answer ≡ worked k s out
   works room k h = after-read ticket s out room ∙ ap (afterReading s out) h
 
   refused-is : (x : ℕ) → Unworked ticket out x → (answer ≡ (x, out)) × (x ≢ 0)
@@ -66,7 +63,7 @@ module _ (ticket : List ℕ) (s : ℕ) (out : List ℤ) where
   -- no cause applies
   record Unrefused (k : Ticket) : Type 0 where
     room : 1681 ≤ length out
-    holds : Holds ticket k
+    holds : HoldsTicket ticket k
     has : T (consistent k)
 
   abbrev Decision : Type 0
@@ -75,11 +72,11 @@ module _ (ticket : List ℕ) (s : ℕ) (out : List ℤ) where
   decide : Decision
   decide = ⊎-elim (λ (l : length out < 1681). inl (10, short refl l)) (λ (l : 1681 ≤ length out). read l (answered readTicket ticket)) (below-or-not (length out) 1681)
     where
-      scheduled : 1681 ≤ length out → (k : Ticket) → Holds ticket k → (b : Bool) → consistent k ≡ b → Decision
+      scheduled : 1681 ≤ length out → (k : Ticket) → HoldsTicket ticket k → (b : Bool) → consistent k ≡ b → Decision
       scheduled l k h true e = inr (k, record { room = l; holds = h; has = rw e tt })
       scheduled l k h false e = inl (9, impossible k refl l h (λ ts q. subst T e (consistent-has k .1 (ts, q))))
 
-      read : 1681 ≤ length out → ((k : Ticket) × Holds ticket k) ⊎ ((c : Cause) × (wholly readTicket ticket ≡ refused c)) → Decision
+      read : 1681 ≤ length out → ((k : Ticket) × HoldsTicket ticket k) ⊎ ((c : Cause) × (wholly readTicket ticket ≡ refused c)) → Decision
       read l (inl r) = scheduled l (r .0) (r .1) (consistent (r .0)) refl
       read l (inr r) = inl (number (r .0), unread (r .0) refl l (r .1))
 

@@ -1,7 +1,7 @@
 -- What holds of the content of a ticket's struct, and of a ticket just read. Rests on RoundTrip and Agree.
 use Prim.Native.Nat.{ℕ, _≤_}
 use mathlib.Core.Path.{_≡_, refl, sym, ap, subst, _∙_}
-use mathlib.Core.List.{List}
+use mathlib.Core.List.{List, []}
 use mathlib.Core.Logic.{_≢_}
 use native.Mathlib.Omega.{arith}
 use lib.ListN.{length}
@@ -18,6 +18,10 @@ use Rattle.ticket.specs.WritingLaws.{length-firsts}
 use Rattle.ticket.specs.Agree.{content-stored}
 use Rattle.ticket.specs.declared.Ticket.{Ticket}
 use Rattle.ticket.specs.declared.ReadTicket.{ReadTicket}
+
+-- the bytes hold the ticket k, and nothing after it
+abbrev pub HoldsTicket : List ℕ → temporal.Ticket → Type 0
+HoldsTicket bytes k = wholly readTicket bytes ≡ got k []
 
 -- the limits of a valid ticket, by its struct
 pub record Limits (t : Ticket) : Type 0 where
