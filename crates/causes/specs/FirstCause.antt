@@ -11,31 +11,32 @@ use Rattle.ticket.specs.Writing.{content, stateOf}
 use Rattle.ticket.specs.Content.{in-events}
 use Rattle.ticket.specs.declared.Record.{Record}
 use Rattle.potentials.specs.Arrays.{windowList}
-use Rattle.causes.specs.Structs.{Canonical, flag-of, open-of, close-of}
+use Rattle.causes.specs.Structs.{Canonical, open-of, close-of}
 
--- by numbers: whether the windows are fit, n events, the event, its flag, whether the window named leaves the one that the event has
+-- by numbers: whether the windows are fit, n events, the event, whether the window named leaves the one that the event has, the number of accepted
+-- commitments
 
-abbrev pub firstCause : Bool → ℕ → ℕ → Bool → Bool → ℕ
-firstCause fit n event committed leaves =
+abbrev pub firstCause : Bool → ℕ → ℕ → Bool → ℕ → ℕ
+firstCause fit n event leaves number =
     cond (not fit) 15
     (cond (eqb event 0 || ltb n event) 11
-    (cond committed 12
     (cond leaves 13
+    (cond (eqb number 65535) 18
     0)))
 
 module _ (r : Record) (ok : Canonical r) (event opens closes : ℕ) where
   pub cause-of : cause (stateOf r) (asking event opens closes)
-      ≡ firstCause (fits (content (r .ticket)) (stateOf r .windows)) (r .ticket .events) event (eqb (at (0 ∷ r .flags) event) 1)
-      (ltb closes opens || (ltb opens (at (0 ∷ r .opens) event) || ltb (at (0 ∷ r .closes) event) closes))
+      ≡ firstCause (fits (content (r .ticket)) (stateOf r .windows)) (r .ticket .events) event
+      (ltb closes opens || (ltb opens (at (0 ∷ r .opens) event) || ltb (at (0 ∷ r .closes) event) closes)) (r .number)
   unfolding cause
-  cause-of = rw (in-events (r .ticket), flag-of r ok event, open-of r ok event, close-of r ok event)
+  cause-of = rw (in-events (r .ticket), open-of r ok event, close-of r ok event)
 
-  pub cause-told : {fit committed leaves : Bool} {first last k : ℕ}
+  pub cause-told : {fit leaves : Bool} {first last k : ℕ}
       → fits (content (r .ticket)) (windowList (r .ticket .events) (r .opens) (r .closes)) ≡ fit
-      → committed ≡ eqb (at (0 ∷ r .flags) event) 1 → first ≡ at (0 ∷ r .opens) event → last ≡ at (0 ∷ r .closes) event
+      → first ≡ at (0 ∷ r .opens) event → last ≡ at (0 ∷ r .closes) event
       → leaves ≡ (ltb closes opens || (ltb opens first || ltb last closes))
-      → k ≡ firstCause fit (r .ticket .events) event committed leaves → k ≡ cause (stateOf r) (asking event opens closes)
+      → k ≡ firstCause fit (r .ticket .events) event leaves (r .number) → k ≡ cause (stateOf r) (asking event opens closes)
   unfolding windowList
-  cause-told f p x y o q =
+  cause-told f x y o q =
       let l = o ∙ (λ i. ltb closes opens || (ltb opens (x i) || ltb (y i) closes)) in
-      q ∙ (λ i. firstCause (sym f i) (r .ticket .events) event (p i) (l i)) ∙ sym cause-of
+      q ∙ (λ i. firstCause (sym f i) (r .ticket .events) event (l i) (r .number)) ∙ sym cause-of

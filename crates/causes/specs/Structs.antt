@@ -5,24 +5,22 @@ use mathlib.Core.Bool.{Bool, true, false}
 use mathlib.Core.List.{List, _∷_, map, _++_}
 use Prim.Native.Nat.{ℕ, zero, suc, _-_, _≤_, _<_}
 use native.Mathlib.Omega.{arith}
-use lib.Dec.{eqb}
 use mathlib.Core.Logic.{_⊎_, inl, inr}
 use lib.ListN.{length, getD, set, replicate, length-append, length-replicate, length-map, length-set}
 use lib.Seq.{getD-append-add, getD-set-other}
 use Rattle.temporal.specs.Lists.{below-or-not, by-points, getD-past}
 use Rattle.temporal.specs.Ticket as temporal
 use Rattle.temporal.specs.Ticket.{Window, events, origin}
-use Rattle.temporal.specs.Plan.{State, flagged}
+use Rattle.temporal.specs.Plan.{State}
 use Rattle.temporal.specs.Run.{Valid, Readable}
 use Rattle.network.specs.Stored.{at}
 use Rattle.network.specs.Lists.{zeros-at}
-use Rattle.ticket.specs.RoundTrip.{flags-small}
 use Rattle.ticket.specs.Agree.{field-at, state-stored}
 use Rattle.ticket.specs.Writing.{content, stateOf, Storable}
 use Rattle.ticket.specs.Stored.{pad, storedState}
 use Rattle.ticket.specs.Writer.{flagByte}
 use Rattle.ticket.specs.Content.{in-events, in-rules}
-use Rattle.potentials.specs.Arrays.{windowList, flagList, window-at, flag-at, Lie, Within}
+use Rattle.potentials.specs.Arrays.{windowList, window-at, Lie, Within}
 use Rattle.ticket.specs.declared.Record.{Record}
 
 -- ---- an array of 40 numbers, 0 past the first n
@@ -98,13 +96,7 @@ module _ (r : Record) (ok : Canonical r) where
   pub canonical-few : r .ticket .events ≤ 40
   canonical-few = omega (arith, counted, ok .readable .valid .events-limit)
 
-  -- the flag and the window of a point, in the arrays
-  pub flag-of : (p : ℕ) → flagged (stateOf r .flags) p ≡ eqb (at (0 ∷ r .flags) p) 1
-  unfolding flagList
-  flag-of = by-points (λ p. flagged (stateOf r .flags) p ≡ eqb (at (0 ∷ r .flags) p) 1) (r .ticket .events) refl
-      (λ i l. flag-at (r .ticket .events) (r .flags) i l)
-      (λ q l. getD-past (false ∷ stateOf r .flags) false q (omega (arith, ok .readable .flags-count, counted)) ∙ ap (λ x. eqb x 1) (sym (past-point (ok .flags-past) q l)))
-
+  -- the window of a point, in the arrays
   pub open-of : (p : ℕ) → temporal.windowOf (stateOf r .windows) p .opens ≡ at (0 ∷ r .opens) p
   unfolding windowList
   open-of = by-points (λ p. temporal.windowOf (stateOf r .windows) p .opens ≡ at (0 ∷ r .opens) p) (r .ticket .events) refl
@@ -116,9 +108,6 @@ module _ (r : Record) (ok : Canonical r) where
   close-of = by-points (λ p. temporal.windowOf (stateOf r .windows) p .closes ≡ at (0 ∷ r .closes) p) (r .ticket .events) refl
       (λ i l. ap (λ (w : Window). w .closes) (window-at (r .ticket .events) (r .opens) (r .closes) i l))
       (λ q l. ap (λ (w : Window). w .closes) (getD-past (origin ∷ stateOf r .windows) origin q (omega (arith, ok .readable .windows-count, counted))) ∙ sym (past-point (ok .closes-past) q l))
-
-  pub canonical-number : r .number ≤ 40
-  canonical-number = omega (arith, ok .readable .number, flags-small (stateOf r .flags), ok .readable .flags-count, ok .readable .valid .events-limit)
 
   pub canonical-lies : Lie (r .ticket) (r .opens) (r .closes)
   unfolding windowList

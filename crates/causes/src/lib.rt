@@ -5,7 +5,7 @@ ghost use mathlib.Core.Path.{_≡_};
 ghost use mathlib.Core.List.{_∷_};
 ghost use Prim.Native.Nat.{_≤_};
 ghost use mathlib.Core.Bool.{not, _&&_, _||_};
-ghost use lib.Dec.{leb, ltb, eqb};
+ghost use lib.Dec.{leb, ltb};
 ghost use lib.ListN.{length};
 ghost use Rattle.temporal.specs.Plan.{cause, asking};
 ghost use Rattle.ticket.specs.Writing.{stateOf};
@@ -56,9 +56,9 @@ fn outside(opens: u32, closes: u32, first: u32, last: u32) -> bool
     last < closes
 }
 
-// The first cause to refuse a commitment, 0 if there is none: of n events, the event's flag, and whether the window leaves the event's.
-fn first_cause(fit: bool, n: u32, event: u32, committed: bool, leaves: bool) -> u32
-    ensures { λ r. ⌜ r ≡ firstCause fit n event committed leaves ⌝ }
+// The first cause to refuse a commitment, 0 if there is none: of n events, whether the window leaves the event's, and the number of accepted commitments.
+fn first_cause(fit: bool, n: u32, event: u32, leaves: bool, number: u32) -> u32
+    ensures { λ r. ⌜ r ≡ firstCause fit n event leaves number ⌝ }
 {
     if !fit {
         return 15;
@@ -69,11 +69,11 @@ fn first_cause(fit: bool, n: u32, event: u32, committed: bool, leaves: bool) -> 
     if n < event {
         return 11;
     }
-    if committed {
-        return 12;
-    }
     if leaves {
         return 13;
+    }
+    if number == ticket::NUMBER {
+        return 18;
     }
     0
 }
@@ -92,37 +92,21 @@ fn number_at(xs: &[u32; Ticket::EVENTS], event: u32) -> u32
     xs[event as usize - 1]
 }
 
-// Whether the flag of an event is set.
-fn flag_at(flags: &[u8; Ticket::EVENTS], event: u32) -> bool
-    requires { ⌜ length (now flags) ≡ 40 ⌝ }
-    ensures { λ r. ⌜ r ≡ eqb (at (0 ∷ now (flags .entry)) event) 1 ⌝ }
-{
-    if event == 0 {
-        return false;
-    }
-    if EVENTS < event {
-        return false;
-    }
-    flags[event as usize - 1] == 1
-}
-
 // The first cause to refuse a commitment to the record.
 pub fn cause(r: ticket::Record, event: u32, opens: u32, closes: u32) -> u32
     requires { ⌜ Canonical r ⌝ }
     ensures { λ k. ⌜ k ≡ cause (stateOf r) (asking event opens closes) ⌝ }
 {
     let t = r.ticket;
-    let flags = r.flags;
     let firsts = r.opens;
     let lasts = r.closes;
     let fit = fitness::fit(t, &firsts, &lasts);
     let n = t.events as u32;
-    let committed = flag_at(&flags, event);
     let leaves = outside(
         opens,
         closes,
         number_at(&firsts, event),
         number_at(&lasts, event),
     );
-    first_cause(fit, n, event, committed, leaves)
+    first_cause(fit, n, event, leaves, r.number)
 }

@@ -1,5 +1,5 @@
 -- One planning and one commitment as the code takes them: what is asked of `latest` and `windows`, what comes back, and that it is kept.
-use mathlib.Core.Path.{_≡_, refl, sym, ap, subst, _∙_}
+use mathlib.Core.Path.{_≡_, sym, ap, subst, _∙_}
 use mathlib.Core.Bool.{Bool, true, false, cond}
 use mathlib.Core.List.{List, [], _∷_}
 use Prim.Native.Nat.{ℕ, _+_, _-_, _≤_, _<_}
@@ -11,9 +11,9 @@ use lib.ListN.{length, set, replicate}
 use lib.Seq.{getD-set-same, getD-set-other}
 use Rattle.temporal.specs.Ticket.{Ticket}
 use Rattle.temporal.specs.Plan.{State, Commitment, accepted, refused, planFor, cause, commit, asking}
-use Rattle.temporal.specs.Run.{Valid, Readable, Event}
+use Rattle.temporal.specs.Run.{Valid, Readable, Acceptable}
 use Rattle.temporal.specs.Run as states
-use Rattle.temporal.specs.Causes.{acceptable}
+use Rattle.temporal.specs.Causes.{acceptable, cause-number}
 use Rattle.temporal.specs.RunHolds as states-hold
 use Rattle.temporal.specs.LatestRun.{plan-for}
 use Rattle.network.specs.Stored.{at}
@@ -48,18 +48,13 @@ edges-room t net opens closes v l o c = record {
 -- ---- a commitment that is accepted
 
 module _ (r : Record) (ok : Canonical r) (event opens closes : ℕ) where
-  -- the number of accepted commitments does not count
-  cause-count : (m : ℕ) → cause (stateIn (r .ticket) (r .flags) (r .opens) (r .closes) m) (asking event opens closes) ≡ cause (stateOf r) (asking event opens closes)
-  unfolding cause
-  cause-count m = refl
-
   pub commit-asked : {net : List ℕ} → length net ≡ 1824 → cause (stateOf r) (asking event opens closes) ≡ 0
       → Workspace (r .ticket) net (r .opens) (r .closes) × Asked (r .ticket) (r .flags) (r .opens) (r .closes) event opens closes
   commit-asked {net} l z = (
     edges-room (r .ticket) net (r .opens) (r .closes) (ok .readable .valid) l (ok .opens-past .long) (ok .closes-past .long),
     record {
       valid = ok .readable .valid;
-      passes = cause-count 0 ∙ z;
+      passes = cause-number (stateOf r) (asking event opens closes) 0 (λ q. omega arith) z;
       flags-long = ok .flags-past .long;
       opens-long = ok .opens-past .long;
       closes-long = ok .closes-past .long;
@@ -82,14 +77,14 @@ module _ (r : Record) (ok : Canonical r) (event opens closes : ℕ) where
     decided,
   )
     where
-      named : Event (content (r .ticket)) event
-      named = acceptable (stateOf r) (asking event opens closes) (rw z tt) .event
+      passed : Acceptable (stateOf r) (asking event opens closes)
+      passed = acceptable (stateOf r) (asking event opens closes) (rw z tt)
 
       inside : event - 1 < r .ticket .events
-      inside = omega (arith, named, in-events (r .ticket))
+      inside = omega (arith, passed .event, in-events (r .ticket))
 
       decided : commit (stateOf r) (asking event opens closes) ≡ accepted (stateIn (r .ticket) flags′ opens′ closes′ (r .number + 1))
-      decided = C .answer (r .number) ∙ ap (λ m. accepted (stateIn (r .ticket) flags′ opens′ closes′ m)) (sym (add-one (r .number)))
+      decided = C .answer (r .number) (passed .rises) ∙ ap (λ m. accepted (stateIn (r .ticket) flags′ opens′ closes′ m)) (sym (add-one (r .number)))
 
       set-bit : (i : ℕ) → Dec (i ≡ event - 1) → at (set (r .flags) (event - 1) 1) i ≤ 1
       set-bit i (yes q) = omega (arith, ap (at (set (r .flags) (event - 1) 1)) q, getD-set-same (r .flags) (event - 1) 1 0 (omega (arith, inside, canonical-few r ok, ok .flags-past .long)))

@@ -5,7 +5,7 @@ use mathlib.Core.List.{List, [], map}
 use lib.ListN.{drop}
 use Rattle.ticket.specs.Parser.{Out, got, refused, number, many}
 use Rattle.temporal.specs.Run.{setFlags}
-use Rattle.ticket.specs.Format.{Entry, flagsIn, readWindow, readPlan, readState}
+use Rattle.ticket.specs.Format.{Entry, flagsIn, readWindow, Rest, readPlan, readState}
 use Rattle.ticket.specs.Writer.{flagByte}
 use Rattle.ticket.specs.Stored.{pad, planned}
 use Rattle.reading_records.specs.declared.ReadWindow.{ReadWindow}
@@ -43,9 +43,23 @@ allWindowed (refused k) = windowsOf (number k) []
 abbrev pub windowsAt : List ℕ → ℕ → ℕ → ℕ → ReadWindows
 windowsAt s at n h = allWindowed (many (readWindow h) n (drop at s))
 
--- What comes after a ticket with n events and the horizon h, from the place `at`.
+-- What comes after a ticket with n events and the horizon h, from the place `at`: windows, with the last number as their count.
+abbrev pub planOf : Rest → ReadWindows
+planOf r =
+    record {
+      number = 0;
+      flags = windowsOf 0 (r .entries) .flags;
+      opens = windowsOf 0 (r .entries) .opens;
+      closes = windowsOf 0 (r .entries) .closes;
+      count = r .number;
+    }
+
+abbrev pub numbered : Out Rest → ReadWindows
+numbered (got r s) = planOf r
+numbered (refused k) = windowsOf (number k) []
+
 abbrev pub planAt : List ℕ → ℕ → ℕ → ℕ → ReadWindows
-planAt s at n h = allWindowed (readPlan n h (drop at s))
+planAt s at n h = numbered (readPlan n h (drop at s))
 
 -- ---- the record
 

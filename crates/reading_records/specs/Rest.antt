@@ -7,7 +7,7 @@ use lib.Dec.{eqb}
 use lib.ListN.{length, drop}
 use Rattle.ticket.specs.Parser.{Out, got, refused, little, many, layout}
 use Rattle.temporal.specs.Run.{setFlags}
-use Rattle.ticket.specs.Format.{Entry, flagsIn, readWindow, readSame, readPlan}
+use Rattle.ticket.specs.Format.{Entry, flagsIn, readWindow, readSame, readNumber, Rest, readPlan}
 use Rattle.reading_records.specs.Parts.{windowsOf, windowsAt}
 use Rattle.ticket.specs.Laws.{number-some}
 use Rattle.ticket.specs.Width.{Fixed, stage, expect-fixed, little-fixed, bind-fixed, many-fixed, many-length}
@@ -38,11 +38,11 @@ windows-got s at n h x l e z =
     (es, g ∙ ap (λ k. got es (drop k s)) nine, p, omega (arith, room, nine))
 
 -- As many windows are read as were asked for.
-pub plan-length : (n h : ℕ) (s : List ℕ) (es : List Entry) (t : List ℕ) → readPlan n h s ≡ got es t → length es ≡ n
+pub plan-length : (n h : ℕ) (s : List ℕ) (r : Rest) (t : List ℕ) → readPlan n h s ≡ got r t → length (r .entries) ≡ n
 unfolding readPlan
-plan-length n h s es t e =
-    stage (readSame n) _ s es t e (λ u s₁ en e₁.
-    stage (many (readWindow h) n) _ s₁ es t e₁ (λ ws s₂ ew e₂.
-    stage (readSame (setFlags (flagsIn ws))) _ s₂ es t e₂ (λ v s₃ ek e₃.
-    let same : es ≡ ws = cc in
+plan-length n h s r t e =
+    stage (readSame n) _ s r t e (λ u s₁ en e₁.
+    stage (many (readWindow h) n) _ s₁ r t e₁ (λ ws s₂ ew e₂.
+    stage (readNumber (setFlags (flagsIn ws))) _ s₂ r t e₂ (λ v s₃ ek e₃.
+    let same : r .entries ≡ ws = cc in
     ap length same ∙ many-length (readWindow h) n s₁ ws s₂ ew)))

@@ -8,11 +8,11 @@ use lib.ListN.{length, drop, length-append}
 use lib.Seq.{drop-at}
 use Rattle.ticket.specs.Parser.{got}
 use Rattle.temporal.specs.Ticket.{Ticket, Window}
-use Rattle.temporal.specs.Run.{setFlags}
-use Rattle.ticket.specs.Format.{size, Entry, flagsIn, windowsIn, stateSize, readTicket}
+use Rattle.ticket.specs.Format.{size, Entry, Rest, stateSize, readTicket}
 use Rattle.ticket.specs.Writer.{flagByte, writeTicket}
 use Rattle.ticket.specs.Stored.{pad, stored, answer, planned}
-use Rattle.reading_records.specs.Parts.{windowsOf}
+use Rattle.ticket.specs.Stages.{stateFrom}
+use Rattle.reading_records.specs.Parts.{planOf}
 use Rattle.ticket.specs.Laws.{was-got}
 use Rattle.ticket.specs.RoundTrip.{Bytes, ticket-back, length-ticket}
 use Rattle.ticket.specs.declared.Ticket as struct
@@ -42,21 +42,21 @@ map-map f g [] = refl
 map-map f g (x ∷ xs) = ap (λ l. g (f x) ∷ l) (map-map f g xs)
 
 -- An accepted record is put together from its parts.
-pub assembled-record : (next : ℕ) (tk : struct.Ticket) (x : ReadWindows) (t : Ticket) (es : List Entry) (u : List ℕ)
-    → tk ≡ stored t → x ≡ windowsOf 0 es → next ≡ stateSize (record { ticket = t; windows = windowsIn es; flags = flagsIn es; count = setFlags (flagsIn es) })
+pub assembled-record : (next : ℕ) (tk : struct.Ticket) (x : ReadWindows) (t : Ticket) (r : Rest) (u : List ℕ)
+    → tk ≡ stored t → x ≡ planOf r → next ≡ stateSize (stateFrom t r)
     → _≡_ {A = ReadRecord}
     (record {
       number = 0;
       plan = record { ticket = tk; flags = x .flags; opens = x .opens; closes = x .closes; number = x .count };
       next = next;
     })
-    (planned 0 (got (record { ticket = t; windows = windowsIn es; flags = flagsIn es; count = setFlags (flagsIn es) }) u))
-assembled-record next tk x t es u et ex e =
+    (planned 0 (got (stateFrom t r) u))
+assembled-record next tk x t r u et ex e =
     rw (
       et,
       ap (λ (y : ReadWindows). y .count) ex,
-      ap (λ (y : ReadWindows). y .flags) ex ∙ ap (pad 0 40) (sym (map-map (λ (y : Entry). y .committed) flagByte es)),
-      ap (λ (y : ReadWindows). y .opens) ex ∙ ap (pad 0 40) (sym (map-map (λ (y : Entry). y .window) (λ (w : Window). w .opens) es)),
-      ap (λ (y : ReadWindows). y .closes) ex ∙ ap (pad 0 40) (sym (map-map (λ (y : Entry). y .window) (λ (w : Window). w .closes) es)),
-      e ∙ sym (zero-add (stateSize (record { ticket = t; windows = windowsIn es; flags = flagsIn es; count = setFlags (flagsIn es) }))),
+      ap (λ (y : ReadWindows). y .flags) ex ∙ ap (pad 0 40) (sym (map-map (λ (y : Entry). y .committed) flagByte (r .entries))),
+      ap (λ (y : ReadWindows). y .opens) ex ∙ ap (pad 0 40) (sym (map-map (λ (y : Entry). y .window) (λ (w : Window). w .opens) (r .entries))),
+      ap (λ (y : ReadWindows). y .closes) ex ∙ ap (pad 0 40) (sym (map-map (λ (y : Entry). y .window) (λ (w : Window). w .closes) (r .entries))),
+      e ∙ sym (zero-add (stateSize (stateFrom t r))),
     )

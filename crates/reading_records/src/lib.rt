@@ -144,7 +144,8 @@ fn other_at(s: &[u8], at: usize, x: usize) -> u32
     0
 }
 
-// What a record has after its ticket, at `at`: the number of events, which is n, their windows, and the number of set flags.
+// What a record has after its ticket, at `at`: the number of events, which is n, their windows, and the number of accepted commitments, which is no less
+// than the number of set flags and becomes the count.
 fn plan_at(s: &[u8], at: usize, n: usize, h: u32) -> ReadWindows
     requires { ⌜ (at ≤ length (now s)) × (n ≤ 40) ⌝ }
     ensures { λ r. ⌜ r ≡ planAt (now (s .entry)) at n h ⌝ }
@@ -157,11 +158,24 @@ fn plan_at(s: &[u8], at: usize, n: usize, h: u32) -> ReadWindows
     if w.number != 0 {
         return w;
     }
-    let l = other_at(s, at + 2 + 9 * n, w.count as usize);
-    if l != 0 {
-        return refused_windows(l);
+    let last = at + 2 + 9 * n;
+    if s.len() - last < 2 {
+        return refused_windows(1);
     }
-    w
+    let count = reading::u16_at(s, last) as u32;
+    if count < w.count {
+        return refused_windows(14);
+    }
+    let flags = w.flags;
+    let opens = w.opens;
+    let closes = w.closes;
+    ReadWindows {
+        number: 0,
+        flags,
+        opens,
+        closes,
+        count,
+    }
 }
 
 // The record at the start of s: a ticket, read through a reader, and what goes on where the ticket ends; next is past it.

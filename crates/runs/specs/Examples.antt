@@ -1,10 +1,11 @@
 -- The examples P1 to P10 of 01, and P1's latest plan (02, change 1), as one table: a call, and what it answers and leaves, whatever output and scratch of
--- sufficient length it is lent.
+-- sufficient length it is lent. A second table has P1's event 1 narrowed again (02, change 4).
 -- What is decided of the tickets and records is `temporal`'s Examples; here the bytes are read and written.
 use mathlib.Core.Path.{_≡_, refl, ap, _∙_}
 use mathlib.Core.Bool.{true}
 use mathlib.Core.List.{List, [], _∷_, _++_}
 use Prim.Native.Nat.{ℕ, _-_, _≤_}
+use native.Mathlib.Omega.{arith}
 use lib.IntN.{ℤ, pos, negsuc}
 use lib.ListN.{length, drop}
 use Rattle.temporal.specs.Lists.{All}
@@ -12,6 +13,7 @@ use Rattle.temporal.specs.Ticket.{Rule, Ticket, weights, weight, total}
 use Rattle.temporal.specs.Plan.{State, accepted, refused, plan, planLatest, commit, asking}
 use Rattle.temporal.specs.Table.{tableOf}
 use Rattle.temporal.specs.Examples.{minus as negative, ticket1, plan1, record3, ticket4, plan4, ticket6, ticket7, ticket8, ticket10}
+use Rattle.temporal.specs.Examples.{narrow1, tick1, narrowed, narrowed-again, narrowed-same, narrowed-stays, narrowed-full}
 use Rattle.temporal.specs.Examples.{p1, p1-latest, p1-table, p2, p3, p4, p5, p6, p6-refused, p7, p7-refused, p8, p10}
 use Rattle.ticket.specs.Parser.{got, number, little, many, wholly}
 use Rattle.ticket.specs.Format.{readTicket, readOwner, readRule, readState, readWindow}
@@ -135,6 +137,28 @@ examples =
     ∷ example 10 (plans bytes10) (writes (bytes10 ++ (two 2 ++ (window 0 0 5 ++ (window 0 0 5 ++ two 0)))) 10)
     ∷ []
 
+-- ---- narrowing again (02, change 4): P1's plan, then event 1 committed to 6..10, to 10..10, and on
+
+-- event 1 committed to 6..10
+abbrev pub narrowed1 : List ℕ
+narrowed1 = bytes1 ++ (two 2 ++ (window 1 6 10 ++ (window 0 8 10 ++ two 1)))
+
+-- event 1 committed to the tick 10, with this last number
+abbrev pub ticked1 : List ℕ → List ℕ
+ticked1 last = bytes1 ++ (two 2 ++ (window 1 10 10 ++ (window 0 8 14 ++ last)))
+
+abbrev pub narrowings : List Example
+narrowings =
+    example 1 (commits record1 1 6 10) (writes narrowed1 6)
+    ∷ example 1 (commits narrowed1 1 10 10) (writes (ticked1 (two 2)) 6)
+    ∷ example 1 (commits (ticked1 (two 2)) 1 10 10) (writes (ticked1 (two 3)) 6)
+    ∷ example 1 (commits (ticked1 (two 2)) 1 6 10) (refuses 13)
+    ∷ example 1 (commits (ticked1 (two 0)) 1 10 10) (refuses 14)
+    ∷ example 1 (commits (ticked1 (254 ∷ 255 ∷ [])) 1 10 10) (writes (ticked1 (255 ∷ 255 ∷ [])) 6)
+    ∷ example 1 (commits (ticked1 (255 ∷ 255 ∷ [])) 1 10 10) (refuses 18)
+    ∷ example 1 (commits (ticked1 (255 ∷ 255 ∷ [])) 1 6 10) (refuses 13)
+    ∷ []
+
 -- ---- a row, from what is read, decided and written
 
 answered-as : (s : State) (written : List ℕ) (t : ℕ) (out scratch : List ℕ) → writeState s ≡ written → total (s .ticket) (s .windows) ≡ t
@@ -167,7 +191,13 @@ module _ (given : List ℕ) {s : State} (read : wholly readState given ≡ got s
       ∙ ap (answered out scratch) p
       ∙ answered-as next written t out scratch w q
 
--- ---- every row of the table holds
+  commits-refused : {r : ℕ} → commit s (asking event opens closes) ≡ refused r → committing given event opens closes out scratch ≡ expected (refuses r) out scratch
+  commits-refused p =
+      committing-read given event opens closes out scratch e
+      ∙ ap (afterReading out scratch (λ (x : State). commit x (asking event opens closes))) read
+      ∙ ap (answered out scratch) p
+
+-- ---- every row of the tables holds
 
 read1 : wholly readTicket bytes1 ≡ got ticket1 []
 unfolding readTicket readOwner readRule little many
@@ -210,4 +240,21 @@ examples-hold =
     and (λ out scratch e. plans-writes bytes8 {k = ticket8} refl out scratch e _ 0 p8 refl refl)
     and (λ out scratch e. planning-read [] out scratch e)
     and (λ out scratch e. plans-writes bytes10 {k = ticket10} refl out scratch e _ 10 p10 refl refl)
+    and tt
+
+read-narrowed1 : wholly readState narrowed1 ≡ got narrow1 []
+unfolding readState readWindow readTicket readOwner readRule little many
+read-narrowed1 = refl
+
+pub narrowings-hold : All Holds narrowings
+unfolding readState readWindow readTicket readOwner readRule little many number writeState writeTicket writeRule writeWindow entries bytes each weight weights
+narrowings-hold =
+    (λ out scratch e. commits-writes record1 read-record1 1 6 10 out scratch e _ 6 narrowed refl refl)
+    and (λ out scratch e. commits-writes narrowed1 read-narrowed1 1 10 10 out scratch e _ 6 narrowed-again refl refl)
+    and (λ out scratch e. commits-writes (ticked1 (two 2)) {s = tick1 2} refl 1 10 10 out scratch e _ 6 (narrowed-same 2 (λ q. omega arith)) refl refl)
+    and (λ out scratch e. commits-refused (ticked1 (two 2)) {s = tick1 2} refl 1 6 10 out scratch e (narrowed-stays 2))
+    and (λ out scratch e. committing-read (ticked1 (two 0)) 1 10 10 out scratch e)
+    and (λ out scratch e. commits-writes (ticked1 (254 ∷ 255 ∷ [])) {s = tick1 65534} refl 1 10 10 out scratch e _ 6 (narrowed-same 65534 (λ q. omega arith)) refl refl)
+    and (λ out scratch e. commits-refused (ticked1 (255 ∷ 255 ∷ [])) {s = tick1 65535} refl 1 10 10 out scratch e narrowed-full)
+    and (λ out scratch e. commits-refused (ticked1 (255 ∷ 255 ∷ [])) {s = tick1 65535} refl 1 6 10 out scratch e (narrowed-stays 65535))
     and tt

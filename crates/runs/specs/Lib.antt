@@ -3,16 +3,17 @@
 --
 -- Believe two files, in this order, and the three statements at the head of Latest; everything else is proved of them.
 --   Calls     the calls as functions of all they are lent: what is returned, what output and scratch hold afterwards
---   Run       what 01's section "A run" claims, for any start and any list of commitments
+--   Run       what 01's section "A run" claims, with 02's change 4, for any start and any list of commitments
 --   Latest    what 02's change 1 claims of the latest plan: `PlannedLatest`, `RunLatest`, `AsPlanning`
 -- The theorems:
 --   RunHolds    `run`, of every start and every list. It answers demand 3.
---   Refusals    a call refuses exactly where a cause applies, under the number of the first (`plan-refusal`, `commit-refusal`, `commit-accepted`), with zeros
---               elsewhere and the output as it was (`plan-zeros`, `latest-zeros`, `commit-zeros`)
+--   Refusals    a call refuses exactly where a cause applies, under the number of the first (`plan-refusal`, `commit-refusal`, `commit-accepted`), never under
+--               12 (`commit-not-twelve`), with zeros elsewhere and the output as it was (`plan-zeros`, `latest-zeros`, `commit-zeros`)
 --   FromRecord  length and total follow from the record (`plan-tells`, `commit-tells`); the plan of a ticket with no events (`plan-nothing`)
 --   Latest      `latest-run`, of every latest plan and every list on its record; it returns and refuses as planning does (`latest-as-planning`,
 --               `latest-refusal`); length and total follow from its record (`latest-tells`). It answers 02's change 1.
--- Examples shows the definitions at work: P1 to P10 of 01 as one table, the table of distances and P1's latest plan in it (`examples-hold`).
+-- Examples shows the definitions at work: P1 to P10 of 01 as one table, the table of distances and P1's latest plan in it (`examples-hold`); P1's event 1
+-- narrowed again as another (`narrowings-hold`).
 --
 -- That the code is these functions is said by its contracts, in crate `plan`.
 pub mod Calls

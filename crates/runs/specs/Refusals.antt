@@ -1,6 +1,6 @@
 -- Refusals of the calls (01, "Where a paper is sent back"): a call answers a number other than 0 exactly where it is that of the first cause that
--- applies (`plan-refusal`, `commit-refusal`; of 9 alone `plan-nine`), so one to which none applies is accepted (`commit-accepted`); and a refusal returns
--- "number, zeros elsewhere" and leaves the output as it was (`plan-zeros`, `latest-zeros`, `commit-zeros`). The causes of a planning are Run's `Unplanned`.
+-- applies (`plan-refusal`, `commit-refusal`; of 9 alone `plan-nine`, of 12 `commit-not-twelve`), so one to which none applies is accepted (`commit-accepted`);
+-- and a refusal returns "number, zeros elsewhere" and leaves the output as it was (`plan-zeros`, `latest-zeros`, `commit-zeros`). The causes of a planning are Run's `Unplanned`.
 -- Rests on Calls and on `temporal`'s causes.
 use mathlib.Core.Path.{_≡_, refl, sym, ap, subst, _∙_}
 use mathlib.Core.Bool.{Bool, true, false, cond}
@@ -16,9 +16,9 @@ use Rattle.temporal.specs.Plan.{State, Answer, accepted, number as decision, as
 use Rattle.temporal.specs.Run.{Acceptable, FirstCause}
 use Rattle.temporal.specs.RunHolds.{distinct}
 use Rattle.temporal.specs.Answers.{plan-refused, commit-number}
-use Rattle.temporal.specs.Causes.{cause-iff, acceptable, acceptable-accepted}
+use Rattle.temporal.specs.Causes.{cause-iff, cause-not-twelve, acceptable, acceptable-accepted}
 use Rattle.ticket.specs.Parser.{Cause, Out, number, got, refused, wholly}
-use Rattle.ticket.specs.Laws.{number-some, number-not-nine}
+use Rattle.ticket.specs.Laws.{number-some, number-not-nine, number-not-twelve}
 use Rattle.ticket.specs.Format.{readTicket, readState}
 use Rattle.ticket.specs.RoundTrip.{Bytes, written-read-state, answered}
 use Rattle.runs.specs.Calls as calls
@@ -27,7 +27,8 @@ use Rattle.runs.specs.Calls.{planning, planning-short, planning-read, pl
 use Rattle.runs.specs.Run.{Call, asks, outcome, Holds, Unplanned, short, unread, impossible}
 use Rattle.runs.specs.RunHolds.{answered-number, outcome-number}
 
--- x is the number of the first cause to refuse a commitment of any bytes (01, "Where a paper is sent back"): 10, then the bytes are read, then "15, 11, 12, 13"
+-- x is the number of the first cause to refuse a commitment of any bytes (01, "Where a paper is sent back"; 02, change 4): 10, then the bytes are read, then
+-- 15, 11, 13, 18
 pub data CommitRefused (current : List ℕ) (c : Call) (x : ℕ) : Type 0 where
   lent-short : x ≡ 10 → ¬ T (room (c .out) (c .scratch)) → CommitRefused current c x
   unreadable : (k : Cause) → x ≡ number k → T (room (c .out) (c .scratch)) → wholly readState current ≡ refused k → CommitRefused current c x
@@ -160,6 +161,15 @@ module _ (current : List ℕ) (bytes : Bytes current) (c : Call) where
         λ a. e ∙ acceptable-accepted s (asks c) (distinct (s .ticket) (written-read-state current s [] bytes h .1 .valid)) a,
         λ z. acceptable s (asks c) (rw (sym e ∙ z) tt),
       )
+
+  -- "Refusal 12 no longer occurs" (02, change 4)
+  pub commit-not-twelve : outcome current c .number ≢ 12
+  commit-not-twelve e = by (commit-refusal 12 .1 (e, λ z. omega (arith, z)))
+    where
+      by : CommitRefused current c 12 → ⊥
+      by (lent-short q n) = omega (arith, q)
+      by (unreadable k q t r) = number-not-twelve k (sym q)
+      by (decided s t h f) = cause-not-twelve s (asks c) (sym (outcome-number current s h c ∙ commit-number s (asks c)) ∙ e)
 
 -- ---- "number, zeros elsewhere"
 

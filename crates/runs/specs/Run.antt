@@ -1,4 +1,5 @@
--- What is claimed of a run at the level of bytes: 01's section "A run", for any start and any list of commitments, in one statement.
+-- What is claimed of a run at the level of bytes: 01's section "A run", with change 4 of 02, for any start and any list of commitments, in one
+-- statement; a list may name an event again, and the last window named counts.
 -- What a record's bytes hold is said by `ticket`'s reading; `temporal` says what a place, an allowed set and the chosen set are.
 use mathlib.Core.Path.{_≡_}
 use mathlib.Core.Bool.{false}

@@ -4,13 +4,14 @@ use mathlib.Core.Bool.{Bool, true, false, not, cond, _||_}
 use mathlib.Core.Logic.{_↔_, _⊎_, inl, inr, _≢_}
 use Prim.Native.Nat.{ℕ}
 use native.Mathlib.Omega.{arith}
+use borrow.Author.Tests.{eq-eqb, ne-eqb}
 use lib.Dec.{T, not-T, T-not, eqb, ltb, nltb→le, eqb→eq}
 use lib.Arith.{le→nltb}
 use Rattle.temporal.specs.Lists.{T-true, T-false}
 use Rattle.temporal.specs.Ticket.{Ticket, events, Distinct, Window, windowOf, Fit, fits}
 use Rattle.temporal.specs.Ends.{fits-fit, fit-fits}
-use Rattle.temporal.specs.Plan.{State, Commitment, flagged, window, noEvent, notInside, cause}
-use Rattle.temporal.specs.Run.{Event, Inside, Acceptable, FirstCause, short, unfit, no-event, already, outside}
+use Rattle.temporal.specs.Plan.{State, Commitment, window, noEvent, notInside, cause}
+use Rattle.temporal.specs.Run.{Event, Inside, Acceptable, FirstCause, short, unfit, no-event, outside, full}
 
 -- ---- the tests of an event and of a window
 
@@ -56,22 +57,22 @@ module _ (s : State) (c : Commitment) (P : ℕ → Type 0) where
   pub by-cause : (T (not (c .room)) → P 10)
       → (T (c .room) → T (not (fits (s .ticket) (s .windows))) → P 15)
       → (T (c .room) → T (fits (s .ticket) (s .windows)) → ¬ Event (s .ticket) (c .event) → P 11)
-      → (T (c .room) → T (fits (s .ticket) (s .windows)) → Event (s .ticket) (c .event) → T (flagged (s .flags) (c .event)) → P 12)
-      → (T (c .room) → T (fits (s .ticket) (s .windows)) → Event (s .ticket) (c .event) → T (not (flagged (s .flags) (c .event))) → ¬ Inside (window c) (windowOf (s .windows) (c .event)) → P 13)
-      → (T (c .room) → T (fits (s .ticket) (s .windows)) → Event (s .ticket) (c .event) → T (not (flagged (s .flags) (c .event))) → Inside (window c) (windowOf (s .windows) (c .event)) → P 0)
+      → (T (c .room) → T (fits (s .ticket) (s .windows)) → Event (s .ticket) (c .event) → ¬ Inside (window c) (windowOf (s .windows) (c .event)) → P 13)
+      → (T (c .room) → T (fits (s .ticket) (s .windows)) → Event (s .ticket) (c .event) → Inside (window c) (windowOf (s .windows) (c .event)) → s .count ≡ 65535 → P 18)
+      → (T (c .room) → T (fits (s .ticket) (s .windows)) → Event (s .ticket) (c .event) → Inside (window c) (windowOf (s .windows) (c .event)) → s .count ≢ 65535 → P 0)
       → P (cause s c)
   unfolding cause
-  by-cause p10 p15 p11 p12 p13 p0 =
+  by-cause p10 p15 p11 p13 p18 p0 =
       by (not (c .room)) 10 _ P p10 (λ x₀.
       let r = not-not (c .room) x₀ in
       by (not (fits (s .ticket) (s .windows))) 15 _ P (p15 r) (λ x₁.
       let f = not-not (fits (s .ticket) (s .windows)) x₁ in
       by (noEvent (s .ticket) (c .event)) 11 _ P (λ t. p11 r f (λ e. T-not (noEvent (s .ticket) (c .event)) (event-test (s .ticket) (c .event) e) t)) (λ x₂.
       let e = event (s .ticket) (c .event) x₂ in
-      by (flagged (s .flags) (c .event)) 12 _ P (p12 r f e) (λ n.
-      by (notInside (window c) (windowOf (s .windows) (c .event))) 13 0 P
-      (λ t. p13 r f e n (λ i. T-not (notInside (window c) (windowOf (s .windows) (c .event))) (inside-test (window c) (windowOf (s .windows) (c .event)) i) t))
-      (λ x₃. p0 r f e n (inside (window c) (windowOf (s .windows) (c .event)) x₃))))))
+      by (notInside (window c) (windowOf (s .windows) (c .event))) 13 _ P
+      (λ t. p13 r f e (λ i. T-not (notInside (window c) (windowOf (s .windows) (c .event))) (inside-test (window c) (windowOf (s .windows) (c .event)) i) t)) (λ x₃.
+      let i = inside (window c) (windowOf (s .windows) (c .event)) x₃ in
+      by (eqb (s .count) 65535) 18 0 P (λ t. p18 r f e i (eqb→eq (s .count) 65535 t)) (λ x₄. p0 r f e i (λ q. T-not (eqb (s .count) 65535) x₄ (rw q tt)))))))
 
 -- ---- the laws
 
@@ -80,17 +81,17 @@ cause-first s c d = by-cause s c (λ r. FirstCause s c r ⊎ ((r ≡ 0) × Accep
     (λ n. inl (short refl (T-not (c .room) n)))
     (λ r n. inl (unfit refl r (λ f. T-not (fits (s .ticket) (s .windows)) n (fit-fits (s .ticket) d (s .windows) f))))
     (λ r f n. inl (no-event refl r (fits-fit (s .ticket) (s .windows) f) n))
-    (λ r f e t. inl (already refl r (fits-fit (s .ticket) (s .windows) f) e t))
-    (λ r f e n o. inl (outside refl r (fits-fit (s .ticket) (s .windows) f) e n o))
-    (λ r f e n i. inr (refl, record { room = r; fit = fits-fit (s .ticket) (s .windows) f; event = e; free = n; ordered = i .0; after = i .1; before = i .2 }))
+    (λ r f e o. inl (outside refl r (fits-fit (s .ticket) (s .windows) f) e o))
+    (λ r f e i q. inl (full refl r (fits-fit (s .ticket) (s .windows) f) e i q))
+    (λ r f e i n. inr (refl, record { room = r; fit = fits-fit (s .ticket) (s .windows) f; event = e; ordered = i .0; after = i .1; before = i .2; rises = n }))
 
 -- a cause and none cannot be
 pub first-refuses : (s : State) (c : Commitment) (r : ℕ) → FirstCause s c r → ¬ Acceptable s c
 first-refuses s c r (short e n) a = n (a .room)
 first-refuses s c r (unfit e x n) a = n (a .fit)
 first-refuses s c r (no-event e x f n) a = n (a .event)
-first-refuses s c r (already e x f v t) a = T-not (flagged (s .flags) (c .event)) (a .free) t
-first-refuses s c r (outside e x f v t n) a = n (a .ordered, a .after, a .before)
+first-refuses s c r (outside e x f v n) a = n (a .ordered, a .after, a .before)
+first-refuses s c r (full e x f v i q) a = a .rises q
 
 -- with fit windows it is not 15
 pub fit-cause : (s : State) (c : Commitment) → Distinct (s .ticket) → Fit (s .ticket) (s .windows) → cause s c ≢ 15
@@ -98,18 +99,44 @@ fit-cause s c d f = by-cause s c (λ r. r ≢ 15)
     (λ n q. omega arith)
     (λ r n. absurd (T-not (fits (s .ticket) (s .windows)) n (fit-fits (s .ticket) d (s .windows) f)))
     (λ r g n q. omega arith)
-    (λ r g e t q. omega arith)
-    (λ r g e n o q. omega arith)
-    (λ r g e n i q. omega arith)
+    (λ r g e o q. omega arith)
+    (λ r g e i x q. omega arith)
+    (λ r g e i n q. omega arith)
+
+-- it is never 12 (02, change 4)
+pub cause-not-twelve : (s : State) (c : Commitment) → cause s c ≢ 12
+cause-not-twelve s c = by-cause s c (λ r. r ≢ 12)
+    (λ n q. omega arith)
+    (λ r n q. omega arith)
+    (λ r g n q. omega arith)
+    (λ r g e o q. omega arith)
+    (λ r g e i x q. omega arith)
+    (λ r g e i n q. omega arith)
 
 pub acceptable : (s : State) (c : Commitment) → T (eqb (cause s c) 0) → Acceptable s c
 acceptable s c = by-cause s c (λ r. T (eqb r 0) → Acceptable s c)
     (λ n z. absurd z)
     (λ r n z. absurd z)
     (λ r f n z. absurd z)
-    (λ r f e t z. absurd z)
-    (λ r f e n o z. absurd z)
-    (λ r f e n i z. record { room = r; fit = fits-fit (s .ticket) (s .windows) f; event = e; free = n; ordered = i .0; after = i .1; before = i .2 })
+    (λ r f e o z. absurd z)
+    (λ r f e i q z. absurd z)
+    (λ r f e i n z. record { room = r; fit = fits-fit (s .ticket) (s .windows) f; event = e; ordered = i .0; after = i .1; before = i .2; rises = n })
+
+-- of two rows of tests that begin alike the second gives 0 where the first does, if so does what comes after their beginning
+past-first : (b : Bool) (r x y : ℕ) → (x ≡ 0 → y ≡ 0) → cond b r x ≡ 0 → cond b r y ≡ 0
+past-first true r x y h e = e
+past-first false r x y h e = h e
+
+-- of the number only 65,535 is a cause
+pub cause-number : (s : State) (c : Commitment) (m : ℕ) → m ≢ 65535 → cause s c ≡ 0
+    → cause (record { ticket = s .ticket; windows = s .windows; flags = s .flags; count = m }) c ≡ 0
+unfolding cause
+cause-number s c m n =
+    past-first (not (c .room)) 10 _ _
+    (past-first (not (fits (s .ticket) (s .windows))) 15 _ _
+    (past-first (noEvent (s .ticket) (c .event)) 11 _ _
+    (past-first (notInside (window c) (windowOf (s .windows) (c .event))) 13 _ _
+    (λ e. rw (ne-eqb m 65535 n)))))
 
 -- no commitment is refused without a cause
 pub acceptable-accepted : (s : State) (c : Commitment) → Distinct (s .ticket) → Acceptable s c → cause s c ≡ 0
@@ -148,15 +175,23 @@ first-is s c x d f = by f
       rw (room r, fit g, T-true (noEvent (s .ticket) (c .event)) (holds-if (noEvent (s .ticket) (c .event)) (λ t. n (event (s .ticket) (c .event) t)))) (sym e),
       λ z. omega (arith, z),
     )
-    by (already e r g v t) = (rw (room r, fit g, is-event v, T-true (flagged (s .flags) (c .event)) t) (sym e), λ z. omega (arith, z))
-    by (outside e r g v t n) = (
+    by (outside e r g v n) = (
       rw (
         room r,
         fit g,
         is-event v,
-        T-false (flagged (s .flags) (c .event)) t,
         T-true (notInside (window c) (windowOf (s .windows) (c .event)))
             (holds-if (notInside (window c) (windowOf (s .windows) (c .event))) (λ u. n (inside (window c) (windowOf (s .windows) (c .event)) u))),
+      ) (sym e),
+      λ z. omega (arith, z),
+    )
+    by (full e r g v i q) = (
+      rw (
+        room r,
+        fit g,
+        is-event v,
+        T-false (notInside (window c) (windowOf (s .windows) (c .event))) (inside-test (window c) (windowOf (s .windows) (c .event)) i),
+        eq-eqb (s .count) 65535 q,
       ) (sym e),
       λ z. omega (arith, z),
     )

@@ -66,7 +66,8 @@ latest-plan k v t =
         windows-count = shape .0;
         windows-lie = shape .1;
         flags-count = length-replicate (events k) false;
-        number = none-set (events k);
+        number-least = omega (arith, none-set (events k));
+        number-most = omega arith;
       };
       fit = ch .allowed;
     }

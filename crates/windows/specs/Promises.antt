@@ -3,6 +3,7 @@
 use mathlib.Core.Path.{_≡_}
 use mathlib.Core.Bool.{Bool, true, cond}
 use mathlib.Core.List.{List}
+use mathlib.Core.Logic.{_≢_}
 use Prim.Native.Nat.{ℕ, suc, _+_, _*_, _-_, _≤_}
 use lib.ListN.{length, set, replicate}
 use Rattle.temporal.specs.Plan.{State, asking, accepted, refused, plan, commit}
@@ -27,9 +28,10 @@ pub record Planned (t : Ticket) (opens closes opens' closes' : List ℕ) (r : Bo
   pub opens-past : Within (t .events) opens opens'
   pub closes-past : Within (t .events) closes closes'
 
--- a commitment that nothing refuses
+-- a commitment that nothing refuses, whatever number below 65,535 the record has
 pub record Committed (t : Ticket) (flags opens closes flags' opens' closes' : List ℕ) (event first last : ℕ) : Type 0 where
-  pub answer : (count : ℕ) → commit (stateIn t flags opens closes count) (asking event first last) ≡ accepted (stateIn t flags' opens' closes' (suc count))
+  pub answer : (count : ℕ) → count ≢ 65535
+      → commit (stateIn t flags opens closes count) (asking event first last) ≡ accepted (stateIn t flags' opens' closes' (suc count))
   pub lie : Lie t opens' closes'
   pub flags-are : flags' ≡ set flags (event - 1) 1
   pub opens-past : Within (t .events) opens opens'

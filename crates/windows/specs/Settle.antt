@@ -2,6 +2,7 @@
 use Prim.Native.Nat.{ℕ, zero, suc, _-_, _≤_, _<_}
 use mathlib.Core.Path.{_≡_, refl, sym, ap, _∙_}
 use mathlib.Core.Bool.{Bool, true, false}
+use mathlib.Core.Logic.{_≢_}
 use mathlib.Core.List.{List}
 use native.Mathlib.Omega.{arith}
 use lib.Dec.{T, eqb}
@@ -16,7 +17,7 @@ use Rattle.temporal.specs.Plan.{asking, accepted, refused, put, plan, cause, co
 use Rattle.temporal.specs.FitSets.{Grows, narrowed, test-grows, itself-grows}
 use Rattle.temporal.specs.Answers.{plan-is, plan-refused, commit-is}
 use Rattle.temporal.specs.Run.{Valid, Acceptable}
-use Rattle.temporal.specs.Causes.{acceptable}
+use Rattle.temporal.specs.Causes.{acceptable, cause-number}
 use Rattle.temporal.specs.RunHolds.{distinct}
 use Rattle.network.specs.Lists.{zeros-at}
 use Rattle.network.specs.Stored.{at}
@@ -169,7 +170,7 @@ module _ (n i : ℕ) (lt : i < n) where
   unfolding flagList
   put-flag flags l = firsts-set n _ _ i _ lt (ap (λ x. eqb x 1) (getD-set-same flags i 1 0 l)) (λ j q. ap (λ x. eqb x 1) (getD-set-other flags i j 1 0 q))
 
--- a commitment that nothing refuses
+-- a commitment that nothing refuses, where the number can rise
 pub record Asked (t : Ticket) (flags opens closes : List ℕ) (event o c : ℕ) : Type 0 where
   pub valid : Valid (content t)
   pub passes : cause (stateIn t flags opens closes 0) (asking event o c) ≡ 0
@@ -209,14 +210,13 @@ module _ {t : Ticket} {flags opens closes : List ℕ} {event o c : ℕ} (A : Ask
   pub commit-answer : (opens' closes' : List ℕ)
       → Chosen (content t) (Grows (content t) (flagList (t .events) (set flags (event - 1) 1)) (windowList (t .events) (set opens (event - 1) o) (set closes (event - 1) c)))
       (windowList (t .events) opens' closes')
-      → (count : ℕ) → commit (stateIn t flags opens closes count) (asking event o c) ≡ accepted (stateIn t (set flags (event - 1) 1) opens' closes' (suc count))
-  unfolding cause windowList flagList
-  commit-answer opens' closes' C count =
+      → (count : ℕ) → count ≢ 65535
+      → commit (stateIn t flags opens closes count) (asking event o c) ≡ accepted (stateIn t (set flags (event - 1) 1) opens' closes' (suc count))
+  unfolding windowList flagList
+  commit-answer opens' closes' C count n =
       rw flag-is
-      (commit-is (stateIn t flags opens closes count) (asking event o c) (windowList (t .events) opens' closes') (any count) (rw (flag-is, window-is) at C))
-    where
-      any : (count : ℕ) → cause (stateIn t flags opens closes count) (asking event o c) ≡ 0
-      any count = A .passes
+      (commit-is (stateIn t flags opens closes count) (asking event o c) (windowList (t .events) opens' closes')
+      (cause-number (stateIn t flags opens closes 0) (asking event o c) count n (A .passes)) (rw (flag-is, window-is) at C))
 
   -- the store of the new window stays within the events
   pub asked-within : {xs' : List ℕ} (xs : List ℕ) (x : ℕ) → Within (t .events) (set xs (event - 1) x) xs' → Within (t .events) xs xs'

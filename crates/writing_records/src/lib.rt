@@ -73,7 +73,10 @@ fn test_record(r: Record) -> u32
     if l != 0 {
         return l;
     }
-    if set_flags(r) != r.number {
+    if r.number < set_flags(r) {
+        return 14;
+    }
+    if ticket::NUMBER < r.number {
         return 14;
     }
     0

@@ -16,11 +16,6 @@ cast-n c =
     let entry : tie.Start = search needs in
     omega (arith, canonical-few (entry .args .r) (entry .pre))
 
-flag-at-requires : tie.Need-flag-at-requires
-flag-at-requires c κs =
-    let entry : tie.Start = search needs in
-    entry .pre .flags-past .long
-
 number-at-requires : tie.Need-number-at-requires
 number-at-requires c κs =
     let entry : tie.Start = search needs in
@@ -34,11 +29,10 @@ number-at-requires-2 c κs =
 returns : tie.Need-returns
 returns c =
     let after-number-at : tie.After-number-at = search needs in
-    let after-flag-at : tie.After-flag-at = search needs in
     let after-fit : tie.After-fit = search needs in
     let s : tie.Start = search needs in
     cause-told (s .args .r) (s .pre) (s .args .event) (s .args .opens) (s .args .closes)
-    (after-fit .fit .ensures) (after-flag-at .flag-at .ensures) (after-number-at .number-at .ensures) (c .before .before .number-at2 .ensures)
+    (after-fit .fit .ensures) (after-number-at .number-at .ensures) (c .before .before .number-at2 .ensures)
     (c .before .outside .ensures) (c .first-cause .ensures)
 
 pub cause-spec : {M : Type 1} → statement M
@@ -47,7 +41,6 @@ cause-spec =
     (tie.spec
     fit-requires
     cast-n
-    flag-at-requires
     number-at-requires
     number-at-requires-2
     (λ c κs. search needs)

@@ -14,10 +14,10 @@ returns-4 : tie.Need-returns-4
 returns-4 c = simp (c .before .before .before .if1 .left, ne-eqb _ _ (c .before .before .if2 .left), le-ltb _ _ (c .before .if3 .left), c .if4 .taken)
 
 returns-5 : tie.Need-returns-5
-returns-5 c = simp (c .before .before .before .before .if1 .left, ne-eqb _ _ (c .before .before .before .if2 .left), le-ltb _ _ (c .before .before .if3 .left), c .before .if4 .left, c .if5 .taken)
+returns-5 c = simp (c .before .before .before .before .if1 .left, ne-eqb _ _ (c .before .before .before .if2 .left), le-ltb _ _ (c .before .before .if3 .left), c .before .if4 .left, eq-eqb _ _ (c .if5 .taken))
 
 returns-6 : tie.Need-returns-6
-returns-6 c = simp (c .before .before .before .before .if1 .left, ne-eqb _ _ (c .before .before .before .if2 .left), le-ltb _ _ (c .before .before .if3 .left), c .before .if4 .left, c .if5 .left)
+returns-6 c = simp (c .before .before .before .before .if1 .left, ne-eqb _ _ (c .before .before .before .if2 .left), le-ltb _ _ (c .before .before .if3 .left), c .before .if4 .left, ne-eqb _ _ (c .if5 .left))
 
 pub first-cause-spec : {M : Type 1} → statement M
 first-cause-spec =

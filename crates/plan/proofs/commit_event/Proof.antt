@@ -3,7 +3,6 @@ use mathlib.Core.Path.{sym, _∙_}
 use native.Mathlib.Omega.{arith}
 use lib.Seq.{length-take-le}
 use Rattle.causes.specs.Zeroed.{past-part}
-use Rattle.causes.specs.Structs.{canonical-number}
 use Rattle.plan.specs.Steps.{commit-asked, canonical-committed}
 use borrow.Author.Needs.{needs}
 use Rattle.plan.proofs.commit_event.Statement.{statement}
@@ -26,7 +25,7 @@ commit-window-requires c κs =
 add-t20 : tie.Need-add-t20
 add-t20 c =
     let entry : tie.Start = search needs in
-    omega (arith, canonical-number (entry .args .r) (entry .pre .0 .0))
+    omega (arith, entry .pre .0 .0 .readable .number-most)
 
 same-length : tie.Need-same-length
 same-length c = search needs

@@ -9,7 +9,7 @@ use Rattle.ticket.specs.Format.{size, Entry, readTicket, readPlan}
 use Rattle.ticket.specs.Stored.{stored, answer, noRecord, planned}
 use Rattle.reading_records.specs.Parts.{planAt}
 use Rattle.ticket.specs.Laws.{was-refused}
-use Rattle.reading_records.specs.Answers.{windows-refused, windows-done}
+use Rattle.reading_records.specs.Answers.{rest-refused, rest-done}
 use Rattle.reading_records.specs.Rest.{plan-length}
 use Rattle.ticket.specs.Stages.{bad-ticket, bad-plan, whole-state}
 use Rattle.reading_records.specs.Whole.{ticket-done, assembled-record}
@@ -64,7 +64,7 @@ returns-2 c =
     let s = entry (p .before) .args .s .now in
     let t = ticket-known (p .before) in
     let r = readPlan (length (t .0 .owners)) (t .0 .horizon) (drop (p .before .before .before .first-ticket .result .next) s) in
-    let e = windows-refused r (p .plan-at .result) (plan-known p) (c .before .if2 .taken) in
+    let e = rest-refused r (p .plan-at .result) (plan-known p) (c .before .if2 .taken) in
     c .refused-record2 .ensures ∙ ap noRecord (e .2) ∙ ap (planned 0) (sym (bad-plan s (t .0) _ (t .1) (e .0) (e .1)))
 
 returns-3 : tie.Need-returns-3
@@ -75,11 +75,11 @@ returns-3 c =
     let t = ticket-known (p .before) in
     let n = length (t .0 .owners) in
     let r = readPlan n (t .0 .horizon) (drop (p .before .before .before .first-ticket .result .next) s) in
-    let w = windows-done r (p .plan-at .result) (plan-known p) (d .if2 .left) in
-    let es = w .0 in
-    assembled-record _ _ (p .plan-at .result) (t .0) es (w .1) (t .2) (w .3)
-    (omega (arith, t .3, ap (λ y. y .events) (t .2), plan-length n (t .0 .horizon) _ es (w .1) (w .2), length-map es (λ (y : Entry). y .window)))
-    ∙ ap (planned 0) (sym (whole-state s (t .0) _ (t .1) es (w .1) (w .2)))
+    let w = rest-done r (p .plan-at .result) (plan-known p) (d .if2 .left) in
+    let es = w .0 .entries in
+    assembled-record _ _ (p .plan-at .result) (t .0) (w .0) (w .1) (t .2) (w .3)
+    (omega (arith, t .3, ap (λ y. y .events) (t .2), plan-length n (t .0 .horizon) _ (w .0) (w .1) (w .2), length-map es (λ (y : Entry). y .window)))
+    ∙ ap (planned 0) (sym (whole-state s (t .0) _ (t .1) (w .0) (w .1) (w .2)))
 
 pub first-record-spec : {M : Type 1} → statement M
 first-record-spec =
