@@ -1,6 +1,8 @@
 # make           the library and the program, proved and built
 # make plan      the plan of $(TICKET), a ticket as text
 # make latest    its latest plan
+# make commit    its plan, and the windows after each commitment in $(BY), with the names of its events;
+#                BY="shutter 6..10, shutter 10..10" commits an event and then narrows its window again
 # make table     its table of distances, with the names of its events; with STOPS=1 the table before the first
 #                stop and after each, from the last event back to the first and then the start
 # make reason    why no times keep its rules, with the names of its events and of the devices in $(ROSTER)
@@ -9,6 +11,7 @@ PREFIX = /usr/local
 TICKET = examples/tickets/p1.txt
 ROSTER = examples/roster.names
 STOPS =
+export BY = shutter 6..10, shutter 10..10
 ARCHIVE = target/staticlib/libbeyunlak.a
 
 ifneq ($(filter-out 1,$(STOPS)),)
@@ -31,6 +34,11 @@ latest: program
 	tools/ticket encode $(TICKET) target/ticket
 	target/bin/planner latest <target/ticket
 
+commit: library
+	$(CC) -std=c99 -O2 -Iinclude examples/commit.c $(ARCHIVE) -o target/commit
+	tools/ticket encode $(TICKET) target/ticket
+	by=$$(tools/ticket by $(TICKET) "$$BY") && target/commit $$by <target/ticket | tools/ticket commits $(TICKET)
+
 table: library
 	$(CC) -std=c99 -O2 -Iinclude examples/table.c $(ARCHIVE) -o target/table
 	tools/ticket encode $(TICKET) target/ticket
@@ -49,4 +57,4 @@ install: library
 	install -m 644 $(ARCHIVE) $(DESTDIR)$(PREFIX)/lib
 	sed 's,@PREFIX@,$(PREFIX),' beyunlak.pc.in >$(DESTDIR)$(PREFIX)/lib/pkgconfig/beyunlak.pc
 
-.PHONY: all library program plan latest table reason install
+.PHONY: all library program plan latest commit table reason install

@@ -1,5 +1,5 @@
-/* A small host: makes a ticket of two events, plans it, lets event 1 commit to tick 10, prints both plans,
- * shows a commitment that is refused, and prints the latest plan of the same ticket.
+/* A small host: makes a ticket of two events, plans it, lets event 1 commit to 6..10 and then to tick 10, prints
+ * the windows each time, shows a commitment that is refused, and prints the latest plan of the same ticket.
  *
  *     cc -std=c99 -Iinclude examples/host.c target/staticlib/libbeyunlak.a -o host && ./host
  */
@@ -73,7 +73,8 @@ static void print(const char *title, const uint8_t *record)
                (unsigned)open, (unsigned)close, window[0] ? ", committed" : "");
         total += close - open;
     }
-    printf("  total %u\n", (unsigned)total);
+    printf("  total %u, accepted commitments %u\n", (unsigned)total,
+           (unsigned)get(record + length(record) - 2, 2));
 }
 
 static const char *reason(uint32_t answer)
@@ -91,12 +92,12 @@ static const char *reason(uint32_t answer)
     case BEYUNLAK_IMPOSSIBLE: return "no schedule exists";
     case BEYUNLAK_SHORT: return "output too short";
     case BEYUNLAK_EVENT: return "no such event";
-    case BEYUNLAK_COMMITTED: return "event already committed";
     case BEYUNLAK_WINDOW: return "not inside the event's window";
     case BEYUNLAK_LAYOUT: return "record breaks the layout";
     case BEYUNLAK_UNFIT: return "record's windows are not fit";
     case BEYUNLAK_NAMES: return "list of names breaks the layout";
     case BEYUNLAK_POSSIBLE: return "a schedule exists";
+    case BEYUNLAK_COUNT: return "number of commitments cannot rise";
     default: return "unknown answer";
     }
 }
@@ -112,29 +113,36 @@ static int refused(const char *what, uint32_t answer)
 int main(void)
 {
     uint8_t ticket[BEYUNLAK_TICKET_MAX];
-    uint8_t plan[BEYUNLAK_RECORD_MAX];
+    uint8_t record[BEYUNLAK_RECORD_MAX];
     uint8_t next[BEYUNLAK_RECORD_MAX];
     size_t ticket_len = make_ticket(ticket);
 
-    if (refused("planning", beyunlak_plan(ticket, ticket_len, plan, sizeof plan)))
+    if (refused("planning", beyunlak_plan(ticket, ticket_len, record, sizeof record)))
         return 1;
-    print("plan", plan);
+    print("plan", record);
 
+    if (refused("event 1 at 6..10",
+                beyunlak_commit(record, length(record), 1, 6, 10, next, sizeof next)))
+        return 1;
+    print("after event 1 commits 6..10", next);
+
+    /* A committed event narrows its window again. The two buffers change places. */
     if (refused("event 1 at 10..10",
-                beyunlak_commit(plan, length(plan), 1, 10, 10, next, sizeof next)))
+                beyunlak_commit(next, length(next), 1, 10, 10, record, sizeof record)))
         return 1;
-    print("after event 1 commits 10..10", next);
+    print("after event 1 commits 10..10", record);
 
-    /* A refusal leaves the output as it was: the record in `next` is still the one to go on with. */
-    size_t next_len = length(next);
-    memcpy(plan, next, next_len);
-    refused("event 1 at 9..9", beyunlak_commit(next, next_len, 1, 9, 9, plan, sizeof plan));
-    if (memcmp(plan, next, next_len) != 0)
+    /* Tick 9 lies inside the first committed window, not inside the last. A refusal leaves the output as it was:
+     * the record in `record` is still the one to go on with. */
+    size_t record_len = length(record);
+    memcpy(next, record, record_len);
+    refused("event 1 at 9..9", beyunlak_commit(record, record_len, 1, 9, 9, next, sizeof next));
+    if (memcmp(next, record, record_len) != 0)
         return 1;
 
     /* As wide, and every window as late as it can be. */
-    if (refused("latest planning", beyunlak_plan_latest(ticket, ticket_len, plan, sizeof plan)))
+    if (refused("latest planning", beyunlak_plan_latest(ticket, ticket_len, record, sizeof record)))
         return 1;
-    print("latest plan", plan);
+    print("latest plan", record);
     return 0;
 }

@@ -4,9 +4,10 @@
  * A session has a horizon and up to 40 events, each owned by a device, and rules on the time between two
  * points. beyunlak_plan gives every event a window, so that each device may pick any tick of its own window
  * without asking the others and no rule is broken; beyunlak_plan_latest does so as late as can be.
- * beyunlak_commit fixes one event's window and widens the others as far as that allows. beyunlak_table tells
- * how far apart in time any two points can be, and beyunlak_table_after what stands in its table on the way
- * there, stop by stop. beyunlak_reason tells in words why no times keep all rules.
+ * beyunlak_commit commits an event to a window inside its own, later to a narrower one, and widens the windows
+ * of the free events as far as that allows. beyunlak_table tells how far apart in time any two points can be,
+ * and beyunlak_table_after what stands in its table on the way there, stop by stop. beyunlak_reason tells in
+ * words why no times keep all rules.
  *
  * Link with libbeyunlak.a. It needs no other library, keeps nothing between two calls, allocates nothing
  * and makes no system call.
@@ -38,8 +39,10 @@
  *                           1 byte   1 if the event is committed, 0 if it is free
  *                           4 bytes  open, the first tick of the window
  *                           4 bytes  close, the last tick; open <= close <= horizon
- *     T + 2 + 9n   2      the number of committed events
+ *     T + 2 + 9n   2      the number of accepted commitments, at least the number of committed events
  *   A record has T + 4 + 9n bytes. The length is not returned, since n and m stand in the record.
+ *   The last number is 0 in a plan and rises by one with each accepted commitment, also where the event was
+ *   committed before. At 65,535 it cannot rise, and no commitment is accepted.
  *   A window of width 0 (open = close) is one tick. The total width of a plan, the sum of close - open, is not
  *   stored: it follows from the windows.
  *
@@ -101,8 +104,8 @@
  *
  * WHAT A CALLER OWES
  *   - No pointer is null, not even one whose length is 0, and each length is true.
- *   - `out` does not overlap the other memory lent to the call, nor does `length`. To commit again, swap two
- *     buffers (see below).
+ *   - `out` does not overlap the other memory lent to the call, nor does `length`. For the next commitment,
+ *     swap two buffers (see below).
  *   - While a call runs, nobody else writes its input or touches its output.
  *   Calls in several threads need no lock where each has memory of its own. Every function ends after a
  *   bounded number of steps, whatever it is given, and uses less than 40 kilobytes of stack (measured; it
@@ -137,6 +140,9 @@ extern "C" {
 #define BEYUNLAK_EVENTS_MAX 40
 #define BEYUNLAK_RULES_MAX 256
 #define BEYUNLAK_BOUND_MAX 1000000 /* either way: -1,000,000 to 1,000,000 */
+
+/* The largest last number of a record. */
+#define BEYUNLAK_COUNT_MAX 65535
 
 /* Lengths in bytes, for n events and m rules. */
 #define BEYUNLAK_TICKET_LENGTH(n, m) (8 + (size_t)(n) + 6 * (size_t)(m))
@@ -182,7 +188,7 @@ struct beyunlak_rule {
 
 /* The answers. The output's length is tested first. Then the input is read field by field in the order of its
  * bytes, each field's presence before its value, and the first cause decides. Then come 9 for a ticket, and
- * 15, 11, 12, 13 in this order for a commitment. The orders of both tables and of a reason stand at
+ * 15, 11, 13, 18 in this order for a commitment. The orders of both tables and of a reason stand at
  * beyunlak_table, beyunlak_table_after and beyunlak_reason. */
 enum beyunlak_answer {
     BEYUNLAK_ACCEPTED = 0,
@@ -197,12 +203,14 @@ enum beyunlak_answer {
     BEYUNLAK_IMPOSSIBLE = 9, /* no times keep all rules (planning and both tables) */
     BEYUNLAK_SHORT = 10,     /* the output is shorter than BEYUNLAK_RECORD_MAX, _TABLE_MAX or _REASON_MAX */
     BEYUNLAK_EVENT = 11,     /* a commitment to event 0 or to one above n */
-    BEYUNLAK_COMMITTED = 12, /* the event is committed already */
+    BEYUNLAK_COMMITTED = 12, /* no longer answered: a committed event may be committed again */
     BEYUNLAK_WINDOW = 13,    /* open is above close, or they are not inside the event's window */
-    BEYUNLAK_LAYOUT = 14,    /* the record's second count, a flag, a window or the last number is wrong */
+    BEYUNLAK_LAYOUT = 14,    /* the record's second count, a flag or a window is wrong, or its last number is
+                                below the number of committed events */
     BEYUNLAK_UNFIT = 15,     /* the record's windows allow a choice that breaks a rule */
     BEYUNLAK_NAMES = 16,     /* a list of names breaks its layout */
-    BEYUNLAK_POSSIBLE = 17   /* a schedule exists: some times keep all rules, so there is no reason */
+    BEYUNLAK_POSSIBLE = 17,  /* a schedule exists: some times keep all rules, so there is no reason */
+    BEYUNLAK_COUNT = 18      /* the record's last number is 65,535 and cannot rise */
 };
 
 /*
@@ -221,10 +229,12 @@ uint32_t beyunlak_plan_latest(const uint8_t *ticket, size_t ticket_len, uint8_t 
 
 /*
  * The record after `event` is committed to the window `open` to `close`, which lies inside its present one.
- * Committed events keep their windows and every free window contains its former one; of all such sets the
- * widest is taken, then the earliest, as in a plan. The record may come from a plan, from a commitment, or
- * from elsewhere, if its windows are fit. After a refusal go on with the record that was handed in.
- * Answers 0 to 8 and 10 to 15.
+ * A committed event may be committed again to any window inside its present one, the same included; the last
+ * one counts. The other committed events keep their windows and every free window contains its former one; of
+ * all such sets the widest is taken, then the earliest, as in a plan. The record may come from a plan, from a
+ * commitment, or from elsewhere, if its windows are fit. After a refusal go on with the record that was handed
+ * in. examples/commit.c is a whole program.
+ * Answers 0 to 8, 10, 11, 13 to 15 and 18.
  */
 uint32_t beyunlak_commit(const uint8_t *record, size_t record_len, uint32_t event, uint32_t open,
                          uint32_t close, uint8_t *out, size_t out_len);

@@ -1,5 +1,6 @@
 /* The header against the library: every answer under its name, the lengths, what is left in the output, the
- * examples of latest plans and commitments, both tables, and reasons. Prints a line a check, "ok NAME" or "FAILED NAME". */
+ * examples of latest plans and commitments, narrowing again and the number of accepted commitments, both tables, and
+ * reasons. Prints a line a check, "ok NAME" or "FAILED NAME". Called with a word it leaves out what takes long. */
 #include <stdio.h>
 #include <stdlib.h>
 #include <string.h>
@@ -66,13 +67,19 @@ static void trains(void)
     rule(2, 1, 2);
 }
 
-static void trains_record(uint32_t flag, uint32_t a, uint32_t b, uint32_t c, uint32_t d, uint32_t count)
+static void trains_flags(uint32_t flag, uint32_t a, uint32_t b, uint32_t second, uint32_t c, uint32_t d,
+                         uint32_t count)
 {
     trains();
     put(2, 2);
     window(flag, a, b);
-    window(0, c, d);
+    window(second, c, d);
     put(count, 2);
+}
+
+static void trains_record(uint32_t flag, uint32_t a, uint32_t b, uint32_t c, uint32_t d, uint32_t count)
+{
+    trains_flags(flag, a, b, 0, c, d, count);
 }
 
 static void fill(void)
@@ -159,9 +166,7 @@ static void records(void)
     refuses("11 event n + 1", commit(3, 10, 10, BEYUNLAK_RECORD_MAX), BEYUNLAK_EVENT);
     refuses("13 open above close", commit(1, 9, 8, BEYUNLAK_RECORD_MAX), BEYUNLAK_WINDOW);
     refuses("13 outside", commit(2, 8, 10, BEYUNLAK_RECORD_MAX), BEYUNLAK_WINDOW);
-    trains_record(1, 5, 10, 8, 9, 1);
-    refuses("12", commit(1, 6, 6, BEYUNLAK_RECORD_MAX), BEYUNLAK_COMMITTED);
-    trains_record(0, 5, 10, 8, 9, 1);
+    trains_record(1, 5, 10, 8, 9, 0);
     refuses("14 last number", commit(1, 6, 6, BEYUNLAK_RECORD_MAX), BEYUNLAK_LAYOUT);
     trains_record(0, 5, 4, 8, 9, 0);
     refuses("14 window", commit(1, 6, 6, BEYUNLAK_RECORD_MAX), BEYUNLAK_LAYOUT);
@@ -184,11 +189,7 @@ static void examples(void)
     gives("P2", answer);
     trains_record(0, 15, 15, 13, 19, 0);
     answer = commit(2, 13, 13, sizeof out);
-    trains();
-    put(2, 2);
-    window(0, 9, 15);
-    window(1, 13, 13);
-    put(1, 2);
+    trains_flags(0, 9, 15, 1, 13, 13, 1);
     gives("P3", answer);
     for (int last = 0; last < 2; last++) {
         start(5, 3);
@@ -254,23 +255,201 @@ static void latest_then_commitment(void)
     memcpy(in, out, in_len = BEYUNLAK_RECORD_LENGTH(2, 6));
     check("P1 to commit on", answer == BEYUNLAK_ACCEPTED);
     answer = commit(2, 13, 13, BEYUNLAK_RECORD_MAX);
-    trains();
-    put(2, 2);
-    window(0, 9, 15);
-    window(1, 13, 13);
-    put(1, 2);
+    trains_flags(0, 9, 15, 1, 13, 13, 1);
     gives("P1, then event 2 commits 13..13", answer);
+    trains_record(0, 15, 15, 13, 19, 0);
+    answer = commit(2, 13, 14, BEYUNLAK_RECORD_MAX);
+    trains_flags(0, 10, 15, 1, 13, 14, 1);
+    gives("P1, then event 2 commits 13..14", answer);
+    answer = commit(2, 13, 13, BEYUNLAK_RECORD_MAX);
+    trains_flags(0, 9, 15, 1, 13, 13, 2);
+    gives("P1, then event 2 commits 13..14 and 13..13", answer);
 }
 
-/* The longest ticket and record: 40 events, 256 rules. */
-static void longest(void)
+/* ---- narrowing again */
+
+/* P1: event 1 commits to 6..10, to 10..10, and to 10..10 once more, then event 2 does; and what is outside by then. */
+static void narrowing(void)
 {
     uint32_t answer;
+    trains_record(0, 5, 10, 8, 9, 0);
+    answer = commit(1, 6, 10, BEYUNLAK_RECORD_MAX);
+    trains_record(1, 6, 10, 8, 10, 1);
+    gives("6..10", answer);
+    refuses("13 inside the free window before 6..10", commit(1, 5, 10, BEYUNLAK_RECORD_MAX), BEYUNLAK_WINDOW);
+    answer = commit(1, 10, 10, BEYUNLAK_RECORD_MAX);
+    trains_record(1, 10, 10, 8, 14, 2);
+    gives("10..10", answer);
+    refuses("13 inside 6..10", commit(1, 9, 9, BEYUNLAK_RECORD_MAX), BEYUNLAK_WINDOW);
+    refuses("13 6..10 itself", commit(1, 6, 10, BEYUNLAK_RECORD_MAX), BEYUNLAK_WINDOW);
+    refuses("13 closes later", commit(1, 10, 11, BEYUNLAK_RECORD_MAX), BEYUNLAK_WINDOW);
+    refuses("13 opens above its close", commit(1, 11, 10, BEYUNLAK_RECORD_MAX), BEYUNLAK_WINDOW);
+    answer = commit(1, 10, 10, sizeof out);
+    trains_record(1, 10, 10, 8, 14, 3);
+    gives("10..10, the same window", answer);
+    answer = commit(2, 8, 14, BEYUNLAK_RECORD_MAX);
+    trains_flags(1, 10, 10, 1, 8, 14, 4);
+    gives("the other event, its whole window", answer);
+    answer = commit(2, 10, 12, BEYUNLAK_RECORD_MAX);
+    trains_flags(1, 10, 10, 1, 10, 12, 5);
+    gives("the other event again", answer);
+    refuses("13 of the other event", commit(2, 9, 12, BEYUNLAK_RECORD_MAX), BEYUNLAK_WINDOW);
+    answer = commit(1, 10, 10, BEYUNLAK_RECORD_MAX);
+    trains_flags(1, 10, 10, 1, 10, 12, 6);
+    gives("all committed, and the first once more", answer);
+}
+
+/* P4, all three events by turns. A committed window stays while others commit, and the free one grows when it can. */
+static void by_turns(void)
+{
+    static const struct {
+        uint32_t event, open, close, windows[3][3];
+    } steps[] = {
+        {1, 2, 5, {{1, 2, 5}, {0, 0, 2}, {0, 0, 0}}}, {2, 1, 2, {{1, 2, 5}, {1, 1, 2}, {0, 0, 1}}},
+        {1, 4, 5, {{1, 4, 5}, {1, 1, 2}, {0, 0, 1}}}, {2, 2, 2, {{1, 4, 5}, {1, 2, 2}, {0, 0, 2}}},
+        {3, 0, 1, {{1, 4, 5}, {1, 2, 2}, {1, 0, 1}}}, {1, 5, 5, {{1, 5, 5}, {1, 2, 2}, {1, 0, 1}}},
+        {3, 1, 1, {{1, 5, 5}, {1, 2, 2}, {1, 1, 1}}}, {2, 2, 2, {{1, 5, 5}, {1, 2, 2}, {1, 1, 1}}},
+    };
+    static const uint32_t plan_windows[3][3] = {{0, 0, 5}, {0, 0, 0}, {0, 0, 0}};
+    const uint32_t count = sizeof steps / sizeof *steps;
+    uint32_t answer = 0;
+    char text[80];
+    for (uint32_t k = 0; k <= count; k++) {
+        start(5, 3);
+        owners(3, BEYUNLAK_STAGE);
+        put(2, 2);
+        rule(1, 2, 0);
+        rule(2, 3, 0);
+        put(3, 2);
+        for (int i = 0; i < 3; i++) {
+            const uint32_t *w = k ? steps[k - 1].windows[i] : plan_windows[i];
+            window(w[0], w[1], w[2]);
+        }
+        put(k, 2);
+        sprintf(text, "P4, commitment %u", (unsigned)k);
+        if (k)
+            gives(text, answer);
+        if (k < count)
+            answer = commit(steps[k].event, steps[k].open, steps[k].close, BEYUNLAK_RECORD_MAX);
+    }
+}
+
+/* The last number of a record that comes from anywhere is at least the number of flags, and rises by one. */
+static void counting(void)
+{
+    static const uint32_t numbers[] = {0, 1, 2, 254, 255, 256, 32767, 32768, 65279, 65533, 65534};
+    uint32_t answer;
+    char text[80];
+    for (size_t k = 0; k < sizeof numbers / sizeof *numbers; k++)
+        for (uint32_t flags = 0; flags <= 2; flags++) {
+            const uint32_t first = flags > 0, second = flags > 1, number = numbers[k];
+            trains_flags(first, 5, 10, second, 8, 9, number);
+            answer = commit(1, 10, 10, BEYUNLAK_RECORD_MAX);
+            sprintf(text, "%u flags, number %u", (unsigned)flags, (unsigned)number);
+            if (number < flags) {
+                refuses(text, answer, BEYUNLAK_LAYOUT);
+            } else {
+                trains_flags(1, 10, 10, second, 8, second ? 9 : 14, number + 1);
+                gives(text, answer);
+            }
+        }
+    trains_record(1, 5, 10, 8, 9, 0);
+    put(0, 1);
+    refuses("14 the number before 8", commit(1, 6, 6, BEYUNLAK_RECORD_MAX), BEYUNLAK_LAYOUT);
+    trains_record(1, 5, 15, 8, 19, 0);
+    refuses("14 the number before 15", commit(0, 6, 6, BEYUNLAK_RECORD_MAX), BEYUNLAK_LAYOUT);
+    trains_record(1, 5, 10, 8, 9, 0);
+    in_len--;
+    refuses("1 the number cut", commit(1, 6, 6, BEYUNLAK_RECORD_MAX), BEYUNLAK_CUT);
+    trains_record(1, 5, 10, 8, 9, 300);
+    put(0, 1);
+    refuses("8 after a number above the flags", commit(1, 6, 6, BEYUNLAK_RECORD_MAX), BEYUNLAK_TRAILING);
+}
+
+/* A record at 65,534 takes one commitment more. At 65,535 whatever would be accepted is 18, and all else as before. */
+static void count_ends(void)
+{
+    uint32_t answer;
+    check("largest number", BEYUNLAK_COUNT_MAX == UINT16_MAX);
+    trains_record(1, 5, 10, 8, 9, BEYUNLAK_COUNT_MAX - 1);
+    answer = commit(1, 6, 10, BEYUNLAK_RECORD_MAX);
+    trains_record(1, 6, 10, 8, 10, BEYUNLAK_COUNT_MAX);
+    gives("65,534 and one more", answer);
+    refuses("18 narrower", commit(1, 10, 10, BEYUNLAK_RECORD_MAX), BEYUNLAK_COUNT);
+    refuses("18 the same window", commit(1, 6, 10, BEYUNLAK_RECORD_MAX), BEYUNLAK_COUNT);
+    refuses("18 a free event", commit(2, 8, 8, BEYUNLAK_RECORD_MAX), BEYUNLAK_COUNT);
+    refuses("13 before 18, outside", commit(1, 5, 10, BEYUNLAK_RECORD_MAX), BEYUNLAK_WINDOW);
+    refuses("13 before 18, open above close", commit(2, 9, 8, BEYUNLAK_RECORD_MAX), BEYUNLAK_WINDOW);
+    refuses("11 before 18, event 0", commit(0, 8, 8, BEYUNLAK_RECORD_MAX), BEYUNLAK_EVENT);
+    refuses("11 before 18, event n + 1", commit(3, 8, 8, BEYUNLAK_RECORD_MAX), BEYUNLAK_EVENT);
+    refuses("10 before 18", commit(1, 10, 10, BEYUNLAK_RECORD_MAX - 1), BEYUNLAK_SHORT);
+    put(0, 1);
+    refuses("8 before 18", commit(1, 10, 10, BEYUNLAK_RECORD_MAX), BEYUNLAK_TRAILING);
+    trains_record(1, 5, 15, 8, 19, BEYUNLAK_COUNT_MAX);
+    refuses("15 before 18", commit(1, 10, 10, BEYUNLAK_RECORD_MAX), BEYUNLAK_UNFIT);
+    trains_flags(0, 5, 10, 0, 8, 9, BEYUNLAK_COUNT_MAX);
+    refuses("18 no flags", commit(1, 10, 10, BEYUNLAK_RECORD_MAX), BEYUNLAK_COUNT);
+    trains_flags(1, 5, 10, 1, 8, 9, BEYUNLAK_COUNT_MAX);
+    refuses("18 all flags", commit(2, 9, 9, BEYUNLAK_RECORD_MAX), BEYUNLAK_COUNT);
+}
+
+/* From the plan of P1 the same commitment for as long as it is accepted, each time on the record just written. */
+static void count_whole(void)
+{
+    uint32_t answer, accepted = 0;
+    trains();
+    answer = plan(BEYUNLAK_RECORD_MAX);
+    in_len = BEYUNLAK_RECORD_LENGTH(2, 6);
+    while (answer == BEYUNLAK_ACCEPTED && accepted <= BEYUNLAK_COUNT_MAX) {
+        memcpy(in, out, in_len);
+        answer = beyunlak_commit(in, in_len, 1, 5, 10, out, BEYUNLAK_RECORD_MAX);
+        accepted += answer == BEYUNLAK_ACCEPTED;
+    }
+    check("18 after 65,535 commitments", answer == BEYUNLAK_COUNT && accepted == BEYUNLAK_COUNT_MAX);
+    trains_record(1, 5, 10, 8, 9, BEYUNLAK_COUNT_MAX);
+    check("the record after 65,535 commitments", memcmp(out, in, in_len) == 0);
+}
+
+/* The longest ticket: 40 events, 256 rules. */
+static void longest_ticket(void)
+{
     start(BEYUNLAK_HORIZON_MAX, BEYUNLAK_EVENTS_MAX);
     owners(BEYUNLAK_EVENTS_MAX, BEYUNLAK_DATABASE);
     put(BEYUNLAK_RULES_MAX, 2);
     for (uint32_t i = 0; i < BEYUNLAK_RULES_MAX; i++)
         rule(i % 40, i % 40 + 1, BEYUNLAK_BOUND_MAX);
+}
+
+/* Its record with all events committed, the last one to a window of its own. */
+static void longest_record(uint32_t open, uint32_t close, uint32_t count)
+{
+    longest_ticket();
+    put(BEYUNLAK_EVENTS_MAX, 2);
+    for (int i = 1; i < BEYUNLAK_EVENTS_MAX; i++)
+        window(1, 0, BEYUNLAK_HORIZON_MAX);
+    window(1, open, close);
+    put(count, 2);
+}
+
+static void longest_again(void)
+{
+    uint32_t answer;
+    longest_record(0, BEYUNLAK_HORIZON_MAX, 39);
+    refuses("14 forty flags, number 39", commit(40, 7, 70000, BEYUNLAK_RECORD_MAX), BEYUNLAK_LAYOUT);
+    longest_record(0, BEYUNLAK_HORIZON_MAX, 40);
+    answer = commit(40, 7, 70000, BEYUNLAK_RECORD_MAX);
+    longest_record(7, 70000, 41);
+    gives("forty flags, number 40", answer);
+    answer = commit(40, 70000, 70000, BEYUNLAK_RECORD_MAX);
+    longest_record(70000, 70000, 42);
+    gives("forty flags, number 41", answer);
+}
+
+/* The plan of the longest ticket. */
+static void longest(void)
+{
+    uint32_t answer;
+    longest_ticket();
     check("longest ticket", in_len == BEYUNLAK_TICKET_MAX && in_len == BEYUNLAK_TICKET_LENGTH(40, 256));
     answer = plan(BEYUNLAK_RECORD_MAX);
     put(BEYUNLAK_EVENTS_MAX, 2);
@@ -338,6 +517,8 @@ static void layout(void)
     check("offset of to", offsetof(struct beyunlak_rule, to) == 1);
     check("offset of bound", offsetof(struct beyunlak_rule, bound) == 4);
     check("size of a rule", sizeof(struct beyunlak_rule) == 8);
+    check("the number that is not answered", BEYUNLAK_COMMITTED == 12);
+    check("the last number", BEYUNLAK_COUNT == 18);
 }
 
 static void table_answers(void)
@@ -761,12 +942,22 @@ static void longest_reason(void)
     no_reason("a ring of sum 0", BEYUNLAK_POSSIBLE);
 }
 
-int main(void)
+int main(int count, char **words)
 {
+    (void)words;
     tickets();
     records();
     examples();
     longest();
+    of = "again: ";
+    narrowing();
+    by_turns();
+    counting();
+    count_ends();
+    if (count == 1)
+        count_whole();
+    longest_again();
+    of = "";
     layout();
     table_answers();
     tables();

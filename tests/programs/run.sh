@@ -213,6 +213,122 @@ tells stops 'tables of another ticket' $p1 "$p4_stops" "$no_stops" 1
 tells stops 'wide numbers' examples/tickets/p7.txt 'stops 0/0 1/2 0/stops 1/0 1000000/-1000000 0/stops 2/0 none/-1 0' \
     'before the first stop/         start    last/start        0       1/last         2       0/after last/         start    last/start        0 1000000/last  -1000000       0/after start/         start    last/start        0    none/last        -1       0' 0
 
+# shown NAME TAIL WANTED: the last lines for P1's ticket with these bytes after it; / stands for a line end
+shown() {
+    { cat examples/tickets/p1.ticket; bytes "$2"; } | tools/ticket show 2>&1 | tail -n 3 >"$work/got"
+    printf '%s\n' "$3" | tr '/' '\n' >"$work/wanted"
+    same "show a record, $1" "$work/wanted" "$work/got"
+}
+p1_free='0200 00 05000000 0a000000 00 08000000 09000000'
+p1_one='0200 01 0a000000 0a000000 00 08000000 0e000000'
+p1_both='0200 01 0a000000 0a000000 01 0a000000 0c000000'
+one_shown='# window e1 10..10 committed/# window e2 8..14 free/# committed events 1, accepted commitments'
+shown 'a plan' "$p1_free 0000" '# window e1 5..10 free/# window e2 8..9 free/# committed events 0, accepted commitments 0, sum of the widths 6'
+shown 'no flags, number 1' "$p1_free 0100" '# window e1 5..10 free/# window e2 8..9 free/# committed events 0, accepted commitments 1, sum of the widths 6'
+shown 'one flag, number 1' "$p1_one 0100" "$one_shown 1, sum of the widths 6"
+shown 'one flag, number 2' "$p1_one 0200" "$one_shown 2, sum of the widths 6"
+shown 'one flag, number 256' "$p1_one 0001" "$one_shown 256, sum of the widths 6"
+shown 'one flag, number 65,535' "$p1_one ffff" "$one_shown 65535, sum of the widths 6"
+shown 'two flags, number 2' "$p1_both 0200" '# window e1 10..10 committed/# window e2 10..12 committed/# committed events 2, accepted commitments 2, sum of the widths 2'
+no_record="refused 14: the record's count, a flag, a window or the last number breaks the layout (byte"
+shown 'one flag, number 0' "$p1_one 0000" "$no_record 66)"
+shown 'two flags, number 1' "$p1_both 0100" "$no_record 66)"
+shown 'a flag of 2' '0200 02 05000000 0a000000 00 08000000 09000000 0000' "$no_record 48)"
+shown 'a byte more' "$p1_one 0200 00" 'refused 8: bytes follow the end (byte 68)'
+shown 'a byte less' "$p1_one 02" 'refused 1: the bytes end inside a field (byte 66)'
+
+# ---- commitments in the text tool
+
+# numbers TEXT COMMITMENTS WANTED: what examples/commit.c takes for these commitments
+numbers() {
+    tools/ticket by "$1" "$2" >"$work/got"
+    good $? "by '$2': exit status"
+    echo "$3" >"$work/wanted"
+    same "by '$2'" "$work/wanted" "$work/got"
+}
+numbers $p1 'shutter 6..10' '1 6 10'
+numbers $p1 'shutter 6..10, shutter 10..10' '1 6 10 1 10 10'
+numbers $p1 '  flash  0.8s .. 9 ,shutter 1s..1.0s  ' '2 8 9 1 10 10'
+numbers $p1 'flash 9..8,flash 0..4294967295' '2 9 8 2 0 4294967295'
+numbers $p1 '' ''
+numbers $p1 ' ' ''
+numbers examples/tickets/p8.txt '' ''
+numbers examples/tickets/session.txt 'field 5s..8s, field 6s..6s' '1 50 80 1 60 60'
+numbers examples/tickets/session.txt 'lamps-off 71s..71s' '9 710 710'
+
+# no_numbers COMMITMENTS PART REASON: they are refused at the part, and nothing is printed
+no_numbers() {
+    tools/ticket by $p1 "$1" >"$work/got" 2>"$work/errors"
+    good $(($? != 1)) "by refuses '$1': exit status"
+    echo "commitment '$2': $3" >"$work/wanted"
+    same "by refuses '$1'" "$work/wanted" "$work/errors"
+    if [ -s "$work/got" ]; then fail "by refuses '$1': wrote to standard output"; else pass; fi
+}
+no_form="this is not of the form 'NAME OPEN..CLOSE'; a comma stands between two"
+no_numbers 'shuter 6..10' 'shuter 6..10' "$p1 has no event 'shuter'"
+no_numbers 'shutter 6..10, Flash 8..9' 'Flash 8..9' "$p1 has no event 'Flash'"
+no_numbers 'start 0..0' 'start 0..0' "$p1 has no event 'start'"
+no_numbers 'shutter' 'shutter' "$no_form"
+no_numbers 'shutter 6' 'shutter 6' "$no_form"
+no_numbers 'shutter 6..' 'shutter 6..' "$no_form"
+no_numbers 'shutter ..10' 'shutter ..10' "$no_form"
+no_numbers 'shutter: 6..10' 'shutter: 6..10' "$no_form"
+no_numbers 'shutter 6..10s5' 'shutter 6..10s5' "$no_form"
+no_numbers '1 6..10' '1 6..10' "$no_form"
+no_numbers 'shutter 6..10 shutter 10..10' 'shutter 6..10 shutter 10..10' "$no_form"
+no_numbers 'shutter 6..10, ' '' "$no_form"
+no_numbers 'shutter 6..10,,shutter 10..10' '' "$no_form"
+no_numbers ',' '' "$no_form"
+no_numbers 'shutter -1..10' 'shutter -1..10' 'the open is -1 ticks, and must lie in 0 to 4294967295'
+no_numbers 'shutter 6..-0.1s' 'shutter 6..-0.1s' 'the close is -1 ticks, and must lie in 0 to 4294967295'
+no_numbers 'shutter 6..4294967296' 'shutter 6..4294967296' 'the close is 4294967296 ticks, and must lie in 0 to 4294967295'
+tools/ticket by "$work/none.txt" 'shutter 6..10' >"$work/got" 2>"$work/errors"
+if [ $? -eq 1 ] && [ ! -s "$work/got" ] && [ -s "$work/errors" ]; then pass; else fail 'by without a text'; fi
+
+# what examples/commit.c writes for the commitments of docs/TEXT-FORM.md, and with names
+p1_plan='record 0 6/1 0 5 10/2 0 8 9'
+p1_twice="$p1_plan/commit 1 6 10/record 1 6/1 1 6 10/2 0 8 10/commit 1 10 10/record 2 6/1 1 10 10/2 0 8 14"
+p1_run="$p1_twice/commit 1 9 9/refused 13/commit 2 10 12/record 3 2/1 1 10 10/2 1 10 12"
+p1_plan_told='plan: 0 accepted, total 6/  shutter  5..10/  flash    8..9'
+p1_twice_told="$p1_plan_told/shutter commits 6..10: 1 accepted, total 6/  shutter  6..10 committed/  flash    8..10/shutter commits 10..10: 2 accepted, total 6/  shutter 10..10 committed/  flash    8..14"
+p1_outside="refused 13: the open is above the close, or they are not inside the event's window"
+p1_run_told="$p1_twice_told/shutter commits 9..9: $p1_outside/flash commits 10..12: 3 accepted, total 2/  shutter 10..10 committed/  flash   10..12 committed"
+tells commits 'P1' $p1 "$p1_run" "$p1_run_told" 0
+tells commits 'a plan alone' $p1 "$p1_plan" 'plan: 0 accepted, total 6/  shutter 5..10/  flash   8..9' 0
+tells commits 'no events' examples/tickets/p8.txt 'record 0 0/commit 1 0 0/refused 11' 'plan: 0 accepted, total 0/event 1 commits 0..0: refused 11: there is no such event to commit' 0
+tells commits 'the start, and numbers that no event has' $p1 "$p1_plan/commit 0 0 0/refused 11/commit 3 0 0/refused 11" \
+    'plan: 0 accepted, total 6/  shutter 5..10/  flash   8..9/event 0 commits 0..0: refused 11: there is no such event to commit/event 3 commits 0..0: refused 11: there is no such event to commit' 0
+tells commits '18' $p1 'record 65535 5/1 1 5 10/2 0 8 8/commit 1 5 10/refused 18' \
+    "plan: 65535 accepted, total 5/  shutter 5..10 committed/  flash   8..8/shutter commits 5..10: refused 18: the record's number of accepted commitments is 65,535 and cannot rise" 0
+tells commits 'closes of two lengths' $p1 'record 0 6/1 1 5 10/2 1 8 9' 'plan: 0 accepted, total 6/  shutter 5..10 committed/  flash   8..9  committed' 0
+tells commits 'refused' $p1 'refused 9' 'refused 9: no times keep all rules' 1
+
+# no_run NAME LINES: the lines are no run on the plan of P1
+no_run() {
+    printf '%s\n' "$2" | tr '/' '\n' | tools/ticket commits $p1 >"$work/got" 2>"$work/errors"
+    good $(($? != 1)) "no run, $1: exit status"
+    echo "this is no run of commitments on the plan of $p1" >"$work/wanted"
+    same "no run, $1" "$work/wanted" "$work/errors"
+    if [ -s "$work/got" ]; then fail "no run, $1: wrote to standard output"; else pass; fi
+}
+no_run 'nothing' ''
+no_run 'a plan of the program' 'plan 2 6/1 0 5 10/2 2 8 9'
+no_run 'a window missing' 'record 0 6/1 0 5 10'
+no_run 'a window too many' "$p1_plan/3 0 5 5"
+no_run 'windows in another order' 'record 0 6/2 0 8 9/1 0 5 10'
+no_run 'a flag of 2' 'record 0 6/1 2 5 10/2 0 8 9'
+no_run 'a word in it' 'record 0 6/1 0 five 10/2 0 8 9'
+no_run 'no total' 'record 0/1 0 5 10/2 0 8 9'
+no_run 'no plan' 'commit 1 6 10/record 1 6/1 1 6 10/2 0 8 10'
+no_run 'two plans' "$p1_plan/$p1_plan"
+no_run 'no answer' "$p1_plan/commit 1 6 10"
+no_run 'no answer to the first' "$p1_plan/commit 1 6 10/commit 1 6 10/refused 13"
+no_run 'two answers' "$p1_plan/commit 1 6 10/refused 13/refused 13"
+no_run 'a commitment without a close' "$p1_plan/commit 1 6/refused 13"
+no_run 'an unknown number' "$p1_plan/commit 1 6 10/refused 99"
+no_run 'a refusal of nothing' "$p1_plan/refused 13"
+no_run 'a line that is empty' "$p1_plan//commit 1 9 9/refused 13"
+
 # ---- lists of names and reasons in the text tool
 
 printf '%s\n' camera filterwheel lamps stage database >"$work/wanted"
@@ -334,11 +450,12 @@ my_told='at exposure camera/by 2 -50  # line 4: rule exposure to lamps-on: -50/a
 tells reason 'a made label' "$work/my.txt" 'at exposure camera/by 2 -50/at eventa lamps/by 4 0/at start/by 3 40' "$my_told" 0
 no_ring 'a name that is no label' "$work/my.txt" 'at exposure camera/by 2 -50/at lamps-on lamps/by 4 0/at start/by 3 40'
 
-for number in 16 17; do
+for number in 12 16 17 18; do
     echo "refused $number" | tools/ticket explain >"$work/got" 2>"$work/errors"
     if [ $? -eq 1 ] && grep -q "^refused $number: ...*" "$work/errors" && [ ! -s "$work/got" ]; then pass; else fail "explain $number"; fi
 done
-for command in 'list' 'reason' 'table' 'stops' 'names a b' 'encode a b c d' 'list a b c' 'reason a b c' 'table a b c' 'stops a b c'; do
+for command in 'list' 'reason' 'table' 'stops' 'by' 'by a' 'commits' 'names a b' 'encode a b c d' 'list a b c' 'reason a b c' 'table a b c' \
+    'stops a b c' 'by a b c' 'commits a b c'; do
     # shellcheck disable=SC2086
     tools/ticket $command >"$work/got" 2>"$work/errors"
     if [ $? -eq 2 ] && [ ! -s "$work/got" ]; then pass; else fail "the wrong call '$command'"; fi
@@ -413,6 +530,42 @@ TABLES
         echo 'usage: table [stops] <TICKET' >"$work/wanted"
         same "table called with '$words', with $compiler" "$work/wanted" "$work/errors"
         if [ -s "$work/got" ]; then fail "table called with '$words', with $compiler: wrote to standard output"; else pass; fi
+    done
+    $compiler -std=c99 -Wall -Wextra -Werror -pedantic -Iinclude examples/commit.c "$library" -o "$work/commit"
+    good $? "examples/commit.c with $compiler"
+    while IFS='|' read -r name words wanted; do
+        # shellcheck disable=SC2086
+        "$work/commit" $words <"examples/tickets/${name% }.ticket" >"$work/got"
+        status=$?
+        case $wanted in ' refused'*) status=$((status != 1)) ;; esac
+        good $status "commitments on ${name% }: $words, with $compiler: exit status"
+        printf '%s\n' "${wanted# }" | tr '/' '\n' >"$work/wanted"
+        same "commitments on ${name% }: $words, with $compiler" "$work/wanted" "$work/got"
+    done <<RUNS
+p1 | | $p1_plan
+p1 | 1 6 10 1 10 10 1 9 9 2 10 12 | $p1_run
+p1 | 01 006 10 1 10 10 | $p1_twice
+p1 | 1 10 10 1 10 10 | $p1_plan/commit 1 10 10/record 1 6/1 1 10 10/2 0 8 14/commit 1 10 10/record 2 6/1 1 10 10/2 0 8 14
+p1 | 0 5 5 3 5 5 4294967295 0 0 | $p1_plan/commit 0 5 5/refused 11/commit 3 5 5/refused 11/commit 4294967295 0 0/refused 11
+p1 | 1 7 6 1 4 10 2 8 4294967295 | $p1_plan/commit 1 7 6/refused 13/commit 1 4 10/refused 13/commit 2 8 4294967295/refused 13
+p4 | 1 2 5 2 1 2 1 4 5 2 2 2 | record 0 5/1 0 0 5/2 0 0 0/3 0 0 0/commit 1 2 5/record 1 5/1 1 2 5/2 0 0 2/3 0 0 0/commit 2 1 2/record 2 5/1 1 2 5/2 1 1 2/3 0 0 1/commit 1 4 5/record 3 3/1 1 4 5/2 1 1 2/3 0 0 1/commit 2 2 2/record 4 3/1 1 4 5/2 1 2 2/3 0 0 2
+p7-impossible | 1 10 10 | refused 9
+p8 | 1 0 0 | record 0 0/commit 1 0 0/refused 11
+p9 | | refused 1
+RUNS
+    # before any commitment it prints the program's plan
+    for ticket in examples/tickets/*.ticket; do
+        "$planner" <"$ticket" | awk '$1 == "plan" { print $3; next } $1 != "refused" { $2 = "" } { print }' | tr -s ' ' >"$work/wanted"
+        "$work/commit" <"$ticket" | awk '$1 == "record" { print $3; next } $1 != "refused" { $2 = "" } { print }' | tr -s ' ' >"$work/got"
+        same "the plan of $ticket before commitments, with $compiler" "$work/wanted" "$work/got"
+    done
+    for words in 1 '1 6' '1 6 10 1' '1 6 10 1 10' 'shutter 6 10' '1 6..10' '1 -6 10' '1 +6 10' '1 6 10x' '1 6 0xa' '1 6 4294967296' '1 6 18446744073709551626' -h; do
+        # shellcheck disable=SC2086
+        "$work/commit" $words <examples/tickets/p1.ticket >"$work/got" 2>"$work/errors"
+        good $(($? != 2)) "commit called with '$words', with $compiler: exit status"
+        echo 'usage: commit [EVENT OPEN CLOSE].. <TICKET' >"$work/wanted"
+        same "commit called with '$words', with $compiler" "$work/wanted" "$work/errors"
+        if [ -s "$work/got" ]; then fail "commit called with '$words', with $compiler: wrote to standard output"; else pass; fi
     done
     $compiler -std=c99 -Wall -Wextra -Werror -pedantic -Iinclude examples/reason.c "$library" -o "$work/reason"
     good $? "examples/reason.c with $compiler"
@@ -525,6 +678,26 @@ for word in 0 2 yes 11; do
     if [ $? -eq 2 ] && [ ! -s "$work/got" ] && grep -q "STOPS=$word: it is 1 or left out" "$work/errors"; then pass; else fail "make table STOPS=$word"; fi
 done
 
+# the ticket of README.md, before its fifth line comes
+head -n 4 "$work/my.txt" >"$work/first.txt"
+first_told='plan: 0 accepted, total 150/  lamps-on   0..0/  exposure  50..200/exposure commits 100..150: 1 accepted, total 100/  lamps-on   0..50/  exposure 100..150 committed/exposure commits 120..120: 2 accepted, total 70/  lamps-on   0..70/  exposure 120..120 committed'
+first_by='exposure 10s..15s, exposure 12s..12s'
+p1_by='shutter 6..10, shutter 1s..1s, shutter 9..9, flash 10..12'
+makes commit 'no ticket named' "$p1_twice_told" 0
+makes commit 'docs/TEXT-FORM.md' "$p1_run_told" 0 BY="$p1_by"
+makes commit 'README' "$first_told" 0 TICKET="$work/first.txt" BY="$first_by"
+makes commit 'nothing' 'plan: 0 accepted, total 6/  shutter 5..10/  flash   8..9' 0 BY=
+makes commit 'no events' 'plan: 0 accepted, total 0' 0 TICKET=examples/tickets/p8.txt BY=
+makes commit 'the same window' 'plan: 0 accepted, total 0/  last 10..10/last commits 10..10: 1 accepted, total 0/  last 10..10 committed/last commits 10..10: 2 accepted, total 0/  last 10..10 committed' 0 \
+    TICKET=examples/tickets/p7.txt BY='last 10..10, last 10..10'
+makes commit 'all refused' "plan: 0 accepted, total 0/  last 10..10/last commits 9..10: $p1_outside" 0 TICKET=examples/tickets/p7.txt BY='last 9..10'
+makes commit 'P7 refused' 'refused 9: no times keep all rules' 2 TICKET=$p7 BY='last 10..10'
+BY='flash 8..8' makes commit 'BY in the environment' "$p1_twice_told" 0
+for by in 'shuter 6..10' 'shutter 6' 'flash 8..9 flash 8..8' 'shutter 6..10; echo x' "shutter 6..10'" 'shutter "6..10"' "shutter \`echo 6\`..10" '*'; do
+    make -s -o library commit ARCHIVE="$library" BY="$by" >"$work/got" 2>"$work/errors"
+    if [ $? -eq 2 ] && [ ! -s "$work/got" ] && grep -q -F "commitment '$by': " "$work/errors"; then pass; else fail "make commit BY=$by"; fi
+done
+
 # stands FILE TOLD: what a command prints stands in the document, four spaces in
 stands() {
     printf '%s\n' "$2" | tr '/' '\n' | sed 's/^/    /' >"$work/wanted"
@@ -532,8 +705,10 @@ stands() {
     good $? "$1 has another text than '${2%%/*} ..'"
 }
 stands README.md "$my_told"
+stands README.md "\$ make -s commit TICKET=my.txt BY=\"$first_by\" | tail -n 9/$first_told"
 stands README.md "$p1_told"
 stands README.md "$p1_stops_told"
+stands docs/TEXT-FORM.md "\$ make -s commit BY=\"$p1_by\" | tail -n 13/$p1_run_told"
 stands docs/TEXT-FORM.md "$p4_ending"
 stands docs/TEXT-FORM.md "$p6_told"
 stands docs/TEXT-FORM.md "$p7_told"
@@ -544,7 +719,7 @@ while read -r verdict name; do
     if [ "$verdict" = ok ]; then pass; else fail "doors: $name"; fi
 done <"$work/got"
 
-for program in host doors table 'table stops'; do
+for program in host 'doors short' table 'table stops' 'commit 1 6 10 1 10 10 1 9 9 2 10 12'; do
     # shellcheck disable=SC2086
     valgrind -q --error-exitcode=9 --leak-check=full "$work/"$program <examples/tickets/p1.ticket >/dev/null 2>"$work/errors"
     good $? "$program under valgrind"

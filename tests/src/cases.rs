@@ -4,7 +4,8 @@ use crate::generate::{self, Structure, STRUCTURES};
 use crate::impossible::{self, SHAPES};
 use crate::library::Library;
 use crate::model::calls::{self, Asked, Loose, LooseRecord};
-use crate::model::{reading, rings, writing, Commitment, Prefer, Record, Rule, Solver, Ticket, BOTH};
+use crate::model::{flags, reading, rings, writing, Commitment, Prefer, Record, Rule, Solver, Ticket, Window};
+use crate::model::{BOTH, MOST_ACCEPTED};
 use crate::random::Random;
 use crate::trial::{Lengths, Report, Trial, ENOUGH};
 
@@ -42,9 +43,13 @@ pub enum Kind {
     ReasonLists,
     /// Tables after many numbers of stops, of tickets of all structures and of damaged ones.
     Stops,
+    /// Long runs of commitments in which committed events narrow again and again, also up to the greatest number.
+    Narrowing,
+    /// The same on tiny tickets, expected answers by exhaustive search.
+    NarrowingTiny,
 }
 
-pub const KINDS: [Kind; 16] = [
+pub const KINDS: [Kind; 18] = [
     Kind::Tiny,
     Kind::Structures,
     Kind::Runs,
@@ -61,6 +66,8 @@ pub const KINDS: [Kind; 16] = [
     Kind::ReasonTiny,
     Kind::ReasonLists,
     Kind::Stops,
+    Kind::Narrowing,
+    Kind::NarrowingTiny,
 ];
 
 impl Kind {
@@ -82,6 +89,8 @@ impl Kind {
             Kind::ReasonTiny => "reason-tiny",
             Kind::ReasonLists => "reason-lists",
             Kind::Stops => "stops",
+            Kind::Narrowing => "narrowing",
+            Kind::NarrowingTiny => "narrowing-tiny",
         }
     }
 
@@ -92,10 +101,12 @@ impl Kind {
     /// The kind that a long run tries at this seed.
     pub fn at(seed: u64) -> Kind {
         match Random::new(seed ^ 0x6b69_6e64).below(1_000) {
-            0..=119 => Kind::Tiny,
-            120..=299 => Kind::Structures,
-            300..=359 => Kind::Runs,
-            360..=489 => Kind::Foreign,
+            0..=109 => Kind::Tiny,
+            110..=269 => Kind::Structures,
+            270..=309 => Kind::Runs,
+            310..=419 => Kind::Foreign,
+            420..=449 => Kind::Narrowing,
+            450..=489 => Kind::NarrowingTiny,
             490..=529 => Kind::Stops,
             530..=609 => Kind::Damaged,
             610..=613 => Kind::Prefixes,
@@ -122,10 +133,11 @@ impl Kind {
             Kind::Values => &[0, 2, 3, 4, 5, 6, 7, 9, 10],
             Kind::Records => &[0, 2, 3, 4, 5, 6, 7, 10, 14],
             Kind::Text => &[0, 1, 2, 3, 4, 5, 6, 7, 8, 9],
-            Kind::Latest => &[0, 1, 2, 3, 4, 5, 6, 7, 8, 9, 10, 11, 12, 13],
+            Kind::Latest => &[0, 1, 2, 3, 4, 5, 6, 7, 8, 9, 10, 11, 13],
             Kind::Reason | Kind::ReasonLists => &[0, 1, 2, 3, 4, 5, 6, 7, 8, 10, 16, 17],
             Kind::ReasonTiny => &[0, 17],
             Kind::Stops => &[0, 1, 2, 3, 4, 5, 6, 7, 8, 9, 10],
+            Kind::Narrowing | Kind::NarrowingTiny => &[0, 10, 11, 13, 18],
             _ => &[],
         }
     }
@@ -151,6 +163,8 @@ pub fn run(kind: Kind, seed: u64, library: &dyn Library) -> Report {
         Kind::ReasonTiny => reason_tiny(&mut trial),
         Kind::ReasonLists => reason_lists(&mut trial, seed),
         Kind::Stops => stops(&mut trial, seed),
+        Kind::Narrowing => narrowing(&mut trial, seed),
+        Kind::NarrowingTiny => narrowing_tiny(&mut trial),
     }
     trial.report
 }
@@ -183,28 +197,40 @@ fn tables_after(trial: &mut Trial, ticket: &Ticket, few: u32, given: &[u32]) {
     }
 }
 
-/// Commits on a record until `most` commitments are tried or every event is committed; `refused` percent of
-/// the calls bring a commitment with something wrong or too little memory.
-fn commit_on(trial: &mut Trial, start: Vec<u8>, most: usize, refused: usize) {
+/// How many percent of the commitments narrow again in kinds that are not about that.
+const AGAIN: usize = 25;
+
+/// Commits on a record until `most` commitments are tried or every event is committed to a single tick; `refused` percent of
+/// the calls bring a commitment with something wrong or too little memory, `again` percent of the others narrow a committed
+/// window.
+fn commit_on(trial: &mut Trial, start: Vec<u8>, most: usize, refused: usize, again: usize) {
     let Ok(mut record) = reading::record(&start) else {
         trial.report.differences.push("an unreadable record was written".to_string());
         return;
     };
     let mut bytes = start;
+    // What each window was before its event last narrowed it; at first the whole session.
+    let mut earlier = vec![Window { open: 0, close: record.ticket.horizon }; record.windows.len()];
     for _ in 0..most {
         let wrong = trial.random.chance(refused);
         let commitment = if wrong {
-            generate::refused_commitment(&record, &mut trial.random)
+            generate::refused_commitment(&record, &earlier, &mut trial.random)
         } else {
-            generate::commitment(&record, &mut trial.random)
+            generate::commitment(&record, again, &mut trial.random)
         };
         let lengths = if wrong { some_lengths(&mut trial.random) } else { ENOUGH };
         if let Some(after) = trial.commit(&bytes, commitment, lengths) {
             let Some(next) = trial.follows(&record, commitment, &after) else { return };
+            let place = commitment.event as usize - 1;
+            if next.windows[place] != record.windows[place] {
+                earlier[place] = record.windows[place];
+            }
             record = next;
             bytes = after;
         }
-        if !trial.report.differences.is_empty() || record.committed.iter().all(|&flag| flag) {
+        let ticks = record.windows.iter().map(|window| window.open == window.close);
+        let settled = ticks.zip(&record.committed).all(|(is_tick, &committed)| is_tick && committed);
+        if !trial.report.differences.is_empty() || settled {
             return;
         }
     }
@@ -214,10 +240,10 @@ fn tiny(trial: &mut Trial) {
     trial.solver = Solver::Exhaustive;
     let ticket = generate::tiny(&mut trial.random);
     if let Some(record) = planned(trial, Prefer::Earliest, &ticket) {
-        commit_on(trial, record, 6, 20);
+        commit_on(trial, record, 6, 20, AGAIN);
     }
     let record = generate::foreign_record(ticket, &mut trial.random);
-    commit_on(trial, writing::record(&record), 4, 10);
+    commit_on(trial, writing::record(&record), 4, 10, AGAIN);
 }
 
 fn structures(trial: &mut Trial, seed: u64) {
@@ -225,7 +251,7 @@ fn structures(trial: &mut Trial, seed: u64) {
     let structure = STRUCTURES[seed as usize % STRUCTURES.len()];
     let ticket = generate::ticket(structure, n, horizon, &mut trial.random);
     if let Some(record) = planned(trial, Prefer::Earliest, &ticket) {
-        commit_on(trial, record, 6, 15);
+        commit_on(trial, record, 6, 15, AGAIN);
     }
 }
 
@@ -244,7 +270,7 @@ fn runs(trial: &mut Trial) {
     let ticket = generate::ticket(structure, n, horizon, &mut trial.random);
     let prefer = trial.random.pick(&BOTH);
     if let Some(record) = planned(trial, prefer, &ticket) {
-        commit_on(trial, record, 70, 30);
+        commit_on(trial, record, 70, 30, AGAIN);
     }
 }
 
@@ -255,7 +281,7 @@ fn foreign(trial: &mut Trial) {
     let record = generate::foreign_record(ticket, &mut trial.random);
     let bytes = writing::record(&record);
     trial.rewrite_record(&bytes, calls::RECORD);
-    commit_on(trial, bytes, 3, 25);
+    commit_on(trial, bytes, 3, 25, AGAIN);
 }
 
 /// A ticket and a record of it with windows that need not be fit.
@@ -274,8 +300,8 @@ fn damaged(trial: &mut Trial) {
         trial.rewrite_ticket(&bytes, calls::TICKET);
         let prefer = trial.random.pick(&BOTH);
         trial.plan(prefer, &bytes, ENOUGH);
-        let bytes = generate::damaged(&record_bytes, &mut trial.random);
-        let commitment = generate::commitment(&record, &mut trial.random);
+        let bytes = generate::damaged_record(&record, &mut trial.random);
+        let commitment = generate::commitment(&record, AGAIN, &mut trial.random);
         trial.rewrite_record(&bytes, calls::RECORD);
         trial.commit(&bytes, commitment, ENOUGH);
     }
@@ -289,7 +315,7 @@ fn damaged(trial: &mut Trial) {
 fn prefixes(trial: &mut Trial) {
     let (mut ticket, record) = ticket_and_record(&mut trial.random);
     let mut bytes = writing::record(&record);
-    let commitment = generate::commitment(&record, &mut trial.random);
+    let commitment = generate::commitment(&record, AGAIN, &mut trial.random);
     ticket.push(trial.random.next() as u8);
     bytes.push(trial.random.next() as u8);
     let steps = 1 + ticket.len() / 200;
@@ -308,7 +334,7 @@ fn prefixes(trial: &mut Trial) {
 fn lengths(trial: &mut Trial) {
     let (ticket, record) = ticket_and_record(&mut trial.random);
     let bytes = writing::record(&record);
-    let commitment = generate::commitment(&record, &mut trial.random);
+    let commitment = generate::commitment(&record, AGAIN, &mut trial.random);
     let around = |limit: usize| limit - 3..=limit + 3;
     for out in around(calls::RECORD) {
         for scratch in around(calls::SCRATCH) {
@@ -406,18 +432,50 @@ fn latest(trial: &mut Trial, seed: u64) {
     trial.plan(Prefer::Latest, &damaged, ENOUGH);
     if let Some(record) = record {
         trial.rewrite_record(&record, calls::RECORD);
-        commit_on(trial, record, most, 15);
+        commit_on(trial, record, most, 15, AGAIN);
     }
 }
 
 fn latest_tiny(trial: &mut Trial) {
     let ticket = writing::ticket(&generate::tiny(&mut trial.random));
-    let searched = calls::plan(&ticket, Prefer::Latest, Solver::Exhaustive);
-    let solved = calls::plan(&ticket, Prefer::Latest, Solver::Flow);
-    trial.expect(searched == solved, "the model's two ways", || format!("searched {searched:?}, by flow {solved:?}"));
     trial.solver = Solver::Exhaustive;
     if let Some(record) = trial.plan(Prefer::Latest, &ticket, ENOUGH) {
-        commit_on(trial, record, 4, 20);
+        commit_on(trial, record, 4, 20, AGAIN);
+    }
+}
+
+/// Up to 200 commitments on a ticket of any structure and size.
+fn narrowing(trial: &mut Trial, seed: u64) {
+    let random = &mut trial.random;
+    let (n, horizon) = generate::size(random);
+    let structure = STRUCTURES[seed as usize % STRUCTURES.len()];
+    let ticket = generate::ticket(structure, n, horizon, random);
+    let most = random.pick(&[20, 5 * n, 200]);
+    narrow(trial, ticket, most);
+}
+
+fn narrowing_tiny(trial: &mut Trial) {
+    trial.solver = Solver::Exhaustive;
+    let ticket = generate::tiny(&mut trial.random);
+    narrow(trial, ticket, 16);
+}
+
+/// A run that narrows again and again. It starts from the plan, the latest plan, or a record from elsewhere with a number so
+/// near the greatest, or 256, that it may be reached.
+fn narrow(trial: &mut Trial, ticket: Ticket, most: usize) {
+    let random = &mut trial.random;
+    let again = random.pick(&[40, 70, 95]);
+    let left = random.below(3 * ticket.events() + 2) as u32;
+    let start = match random.below(5) {
+        0..=1 => trial.plan(Prefer::Earliest, &writing::ticket(&ticket), ENOUGH),
+        2 => trial.plan(Prefer::Latest, &writing::ticket(&ticket), ENOUGH),
+        _ => generate::fit_windows(&ticket, random).map(|windows| {
+            let accepted = random.pick(&[256, MOST_ACCEPTED, MOST_ACCEPTED]) - left;
+            writing::record(&Record { accepted, ..generate::flagged(ticket, windows, random) })
+        }),
+    };
+    if let Some(record) = start {
+        commit_on(trial, record, most, 25, again);
     }
 }
 
@@ -553,7 +611,7 @@ impl Values {
             rules: count,
             from: [rest; 256],
             to: [rest; 256],
-            bound: [-(rest as i32) * 9_000_000; 256],
+            bound: [(rest as i32).wrapping_mul(-9_000_000); 256],
         };
         for (k, rule) in self.rules.iter().take(256).enumerate() {
             loose.from[k] = rule.from;
@@ -572,7 +630,7 @@ fn loosened_record(ticket: Loose, record: &Record, random: &mut Random) -> Loose
         flags: [rest; 40],
         opens: [rest as u32; 40],
         closes: [rest as u32; 40],
-        number: record.accepted as u32,
+        number: record.accepted,
     };
     for (k, (window, &committed)) in record.windows.iter().zip(&record.committed).enumerate() {
         loose.flags[k] = committed as u8;
@@ -585,13 +643,19 @@ fn loosened_record(ticket: Loose, record: &Record, random: &mut Random) -> Loose
 /// One value after the ticket at or past a limit.
 fn disturb_windows(loose: &mut LooseRecord, random: &mut Random) {
     let horizon = loose.ticket.horizon;
-    let k = random.below((loose.ticket.events as usize).clamp(1, 40));
+    let events = (loose.ticket.events as usize).clamp(1, 40);
+    let k = random.below(events);
     match random.below(6) {
         0 => loose.flags[k] = random.pick(&[0, 1, 2, 255]),
         1 => loose.opens[k] = random.pick(&[0, loose.closes[k], loose.closes[k].saturating_add(1), u32::MAX]),
         2 => loose.closes[k] = random.pick(&[0, loose.opens[k], loose.opens[k].saturating_sub(1)]),
         3 => loose.closes[k] = random.pick(&[horizon, horizon.saturating_add(1), u32::MAX]),
-        4 => loose.number = random.pick(&[0, loose.number + 1, loose.number + 65_536, u32::MAX]),
+        4 => {
+            let set = flags(&loose.flags.map(|flag| flag == 1)[..events]);
+            let below = set.saturating_sub(1);
+            let numbers = [0, below, below, set, set + 65_536, MOST_ACCEPTED, MOST_ACCEPTED + 1, u32::MAX];
+            loose.number = random.pick(&numbers);
+        }
         _ => {
             loose.flags[k] = 1 - loose.flags[k].min(1);
             loose.number = random.pick(&[loose.number, loose.number + 1]);

@@ -6,6 +6,7 @@ use crate::model::calls::{self, Answer, Asked, Loose, LooseRecord, Outcome};
 use crate::model::{
     distances, reading, text, writing, Commitment, Prefer, Range, Record, Rule, Solver, Ticket, Window,
 };
+use crate::narrowing_faults::{self, NarrowingFault};
 use crate::reason_faults::{self, ReasonFault};
 use crate::stop_faults::{self, StopFault};
 
@@ -57,8 +58,6 @@ pub enum Fault {
     WritesLateWindow,
     /// Printed events are numbered from 0.
     PrintsFromZero,
-    /// Whether the window lies inside is looked at before whether the event is committed.
-    InsideFirst,
     /// The plan where the latest one is asked for.
     EarliestForLatest,
     /// Latest opens with earliest closes, where these are not before them.
@@ -83,10 +82,12 @@ pub enum Fault {
     Reason(ReasonFault),
     /// A fault of the call for tables after some stops.
     Stops(StopFault),
+    /// A fault of narrowing again.
+    Narrowing(NarrowingFault),
 }
 
-/// All faults but those of reasons and of stops.
-pub const FAULTS: [Fault; 34] = [
+/// All faults but those of reasons, of stops and of narrowing again.
+pub const FAULTS: [Fault; 33] = [
     Fault::RefusesAll,
     Fault::OnePlan,
     Fault::Silent,
@@ -110,7 +111,6 @@ pub const FAULTS: [Fault; 34] = [
     Fault::TableTouchesRest,
     Fault::WritesLateWindow,
     Fault::PrintsFromZero,
-    Fault::InsideFirst,
     Fault::EarliestForLatest,
     Fault::LatestOpensOnly,
     Fault::EndsNotExchanged,
@@ -262,6 +262,9 @@ impl Faulty {
     }
 
     fn committed(&self, bytes: &[u8], commitment: Commitment) -> Outcome {
+        if let Fault::Narrowing(fault) = self.fault {
+            return narrowing_faults::committed(fault, bytes, commitment);
+        }
         let mended = if self.fault == Fault::AnyCount { with_mended_count(bytes) } else { bytes.to_vec() };
         let outcome = library::committed(&mended, commitment);
         let former = reading::record(&mended);
@@ -294,10 +297,6 @@ impl Faulty {
                 let windows = former.ticket.best(&ranges, Prefer::Latest, Solver::Flow);
                 record.windows = windows.unwrap_or(record.windows);
                 Ok((record, total))
-            }
-            (Fault::InsideFirst, Err(12), Ok(former)) => {
-                let window = former.windows[commitment.event as usize - 1];
-                Err(if commitment.close > window.close { 13 } else { 12 })
             }
             (_, outcome, _) => outcome,
         }
@@ -341,7 +340,7 @@ impl Faulty {
 }
 
 /// The record with its free windows planned anew, whatever they were.
-fn afresh(mut record: Record) -> (Record, i64) {
+pub fn afresh(mut record: Record) -> (Record, i64) {
     let mut ranges = record.ticket.any_windows();
     for (range, (window, &committed)) in ranges.iter_mut().zip(record.windows.iter().zip(&record.committed)) {
         if committed {
@@ -405,7 +404,18 @@ impl Library for Faulty {
     }
 
     fn commit(&self, record: &[u8], commitment: Commitment, out: &mut [u8], scratch: &mut [u32]) -> Answer {
-        self.delivered(|| self.committed(record, commitment), out, scratch)
+        let before = scratch.to_vec();
+        let mut answer = self.delivered(|| self.committed(record, commitment), out, scratch);
+        match self.fault {
+            Fault::Narrowing(fault) if answer.number == 18 => match fault {
+                NarrowingFault::FullLength => answer.length = record.len() as u32,
+                NarrowingFault::FullWrites => out[..record.len()].copy_from_slice(record),
+                NarrowingFault::FullDirtyScratch => scratch.copy_from_slice(&before),
+                _ => {}
+            },
+            _ => {}
+        }
+        answer
     }
 
     fn table(&self, horizon: u32, events: u32, rules: &[Rule], out: &mut [i32]) -> u32 {
@@ -443,6 +453,9 @@ impl Library for Faulty {
     }
 
     fn rewrite_record(&self, record: &[u8], out: &mut [u8]) -> (u32, u32) {
+        if let Fault::Narrowing(fault) = self.fault {
+            return narrowing_faults::rewrite_record(fault, record, out);
+        }
         if self.fault != Fault::AnyCount || out.len() < calls::RECORD {
             return Model.rewrite_record(record, out);
         }
@@ -463,6 +476,7 @@ impl Library for Faulty {
     fn write_record(&self, loose: &LooseRecord, out: &mut [u8]) -> (u32, u32) {
         match self.fault {
             Fault::WritesLateWindow => Model.write_record(&cut_at_horizon(loose), out),
+            Fault::Narrowing(fault) => narrowing_faults::write_record(fault, loose, out),
             _ => Model.write_record(loose, out),
         }
     }

@@ -1,6 +1,6 @@
 //! Tickets of several structures and sizes, windows and commitments on them, damaged bytes.
 
-use crate::model::{distances, Commitment, Record, Rule, Ticket, Window};
+use crate::model::{distances, flags, writing, Commitment, Record, Rule, Ticket, Window, MOST_ACCEPTED};
 use crate::random::Random;
 
 #[derive(Clone, Copy, Debug, PartialEq, Eq)]
@@ -332,48 +332,102 @@ pub fn foreign_record(ticket: Ticket, random: &mut Random) -> Record {
             window.close = (window.close + 1).min(h as u32);
         }
     }
+    flagged(ticket, windows, random)
+}
+
+/// The record of these windows with any flags and any number that they allow.
+pub fn flagged(ticket: Ticket, windows: Vec<Window>, random: &mut Random) -> Record {
     let share = random.pick(&[0, 0, 30, 80]);
-    let committed: Vec<bool> = (0..n).map(|_| random.chance(share)).collect();
-    let accepted = committed.iter().filter(|&&flag| flag).count() as u16;
+    let committed: Vec<bool> = windows.iter().map(|_| random.chance(share)).collect();
+    let accepted = last_number(flags(&committed), random);
     Record { ticket, committed, windows, accepted }
 }
 
-/// A commitment that may be accepted: a free event, if there is one, and a window inside its own.
-pub fn commitment(record: &Record, random: &mut Random) -> Commitment {
-    let free: Vec<usize> = (0..record.windows.len()).filter(|&k| !record.committed[k]).collect();
-    if free.is_empty() {
-        return refused_commitment(record, random);
+/// A last number beside this many flags: theirs, a few more, at a limit or any.
+fn last_number(flags: u32, random: &mut Random) -> u32 {
+    match random.below(10) {
+        0..=3 => flags,
+        4..=5 => flags + random.between(1, 4) as u32,
+        6 => random.pick(&[255, 256, 257, 32_767, 32_768]),
+        7 => random.pick(&[MOST_ACCEPTED - 2, MOST_ACCEPTED - 1]),
+        8 => MOST_ACCEPTED,
+        _ => random.between(flags as i64, MOST_ACCEPTED as i64) as u32,
     }
-    let k = random.pick(&free);
-    let (open, close) = (record.windows[k].open as i64, record.windows[k].close as i64);
-    let (a, b) = match random.below(6) {
-        0 => (open, close),
-        1 => (open, open),
-        2 => (close, close),
-        3 => ((open + close) / 2, (open + close) / 2),
-        _ => (random.between(open, close), random.between(open, close)),
-    };
-    Commitment { event: k as u32 + 1, open: a.min(b) as u32, close: a.max(b) as u32 }
 }
 
-/// A commitment with something wrong: event, open or close.
-pub fn refused_commitment(record: &Record, random: &mut Random) -> Commitment {
+/// A commitment that may be accepted: an event and a window inside its own. `again` percent of them are to a committed event
+/// with more than one tick, if there is one; most others to a free one, if there is one.
+pub fn commitment(record: &Record, again: usize, random: &mut Random) -> Commitment {
+    let events = 0..record.windows.len();
+    if events.is_empty() {
+        return no_event(0, random);
+    }
+    let (mut wide, free): (Vec<usize>, Vec<usize>) = events.clone().partition(|&k| record.committed[k]);
+    wide.retain(|&k| record.windows[k].open < record.windows[k].close);
+    let drawn = random.below(100);
+    let k = random.pick(&match drawn {
+        _ if drawn < again && !wide.is_empty() => wide,
+        _ if drawn < 95 && !free.is_empty() => free,
+        _ => events.collect(),
+    });
+    let Window { open, close } = inside(record.windows[k], random);
+    Commitment { event: k as u32 + 1, open, close }
+}
+
+/// A window inside this one: the same, a single tick, one end moved by up to a quarter, or any.
+fn inside(window: Window, random: &mut Random) -> Window {
+    let (open, close) = (window.open as i64, window.close as i64);
+    let moved = random.between((close - open).min(1), (close - open + 3) / 4);
+    let (a, b) = match random.below(12) {
+        0..=1 => (open, close),
+        2 => (open, open),
+        3 => (close, close),
+        4 => ((open + close) / 2, (open + close) / 2),
+        5..=7 => (open + moved, close),
+        8..=10 => (open, close - moved),
+        _ => (random.between(open, close), random.between(open, close)),
+    };
+    Window { open: a.min(b) as u32, close: a.max(b) as u32 }
+}
+
+/// A commitment to an event that a record of n events does not have.
+fn no_event(n: u32, random: &mut Random) -> Commitment {
+    let event = random.pick(&[0, n + 1, n + 2, 255, 256, 65_536, u32::MAX]);
+    Commitment { event, open: random.pick(&[0, 1, u32::MAX]), close: random.pick(&[0, 1, u32::MAX]) }
+}
+
+/// A commitment with something wrong: event, open or close. `earlier` are wider windows that a committed event must not get
+/// back.
+pub fn refused_commitment(record: &Record, earlier: &[Window], random: &mut Random) -> Commitment {
     let n = record.windows.len() as u32;
     if n == 0 || random.chance(30) {
-        let event = random.pick(&[0, n + 1, n + 2, 255, 256, 65_536, u32::MAX]);
-        return Commitment { event, open: random.pick(&[0, 1, u32::MAX]), close: random.pick(&[0, 1, u32::MAX]) };
+        return no_event(n, random);
     }
-    let event = 1 + random.below(n as usize) as u32;
-    let Window { open, close } = record.windows[event as usize - 1];
-    let (open, close) = match random.below(6) {
+    let k = random.below(n as usize);
+    let Window { open, close } = record.windows[k];
+    let (open, close) = match random.below(9) {
         0 => (open.wrapping_sub(1), close),
         1 => (open, close + 1),
         2 => (close + 1, close),
         3 => (close, open),
         4 => (open, u32::MAX),
+        5 => (earlier[k].open, earlier[k].close),
+        6 => (earlier[k].open, close),
+        7 => (open, earlier[k].close),
         _ => (random.next() as u32, random.next() as u32),
     };
-    Commitment { event, open, close }
+    Commitment { event: k as u32 + 1, open, close }
+}
+
+/// A record's bytes damaged; one in five times in its last number alone, which is then at a limit or off by one.
+pub fn damaged_record(record: &Record, random: &mut Random) -> Vec<u8> {
+    if random.chance(80) {
+        return damaged(&writing::record(record), random);
+    }
+    let set = flags(&record.committed);
+    let below = set.saturating_sub(1);
+    let accepted = random.pick(&[0, below, below, set, set + 256, MOST_ACCEPTED]);
+    writing::record(&Record { accepted, ..record.clone() })
 }
 
 /// Bytes with a few of them changed, cut off or added.

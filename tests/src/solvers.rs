@@ -106,7 +106,7 @@ pub fn compare(first: u64, count: u64) -> (u64, Vec<String>) {
             if reading::record(&bytes).as_ref() != Ok(&record) {
                 differences.push(format!("record read again at seed {seed}"));
             }
-            let commitment = generate::commitment(&record, random);
+            let commitment = generate::commitment(&record, 50, random);
             same(seed, "commitment", |solver| calls::commit(&bytes, commitment, solver), &mut differences);
             if let Ok((next, _)) = calls::commit(&bytes, commitment, Solver::Flow) {
                 record = next;

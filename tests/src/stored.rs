@@ -1,6 +1,7 @@
 //! Cases with known answers: the examples of 01, what 02 makes of them, and instances from the five source documents.
 //! Each is also compared with the model. "Says" lines are the source's statement, in our words.
 
+mod narrowing;
 mod reasons;
 mod stops;
 
@@ -12,7 +13,7 @@ use crate::trial::{Lengths, Report, Trial, ENOUGH};
 /// A name and what it tries.
 type Case = (&'static str, fn(&mut Stored));
 
-pub const CASES: [Case; 43] = [
+pub const CASES: [Case; 53] = [
     ("01, P1 and P2", example_1_2),
     ("01, P3", example_3),
     ("01, P4 and P5", example_4_5),
@@ -44,6 +45,16 @@ pub const CASES: [Case; 43] = [
     ("02, change 3: far above the horizon", stops::far_above_the_horizon),
     ("02, change 3: no schedule", stops::impossible),
     ("02, change 3: refusals in their order", stops::refusals),
+    ("02, change 4: P1's events narrow again", narrowing::example_1),
+    ("02, change 4: the same window again", narrowing::same_window),
+    ("02, change 4: other committed windows stay", narrowing::others_stay),
+    ("02, change 4: widest and then earliest", narrowing::widest_then_earliest),
+    ("02, change 4: a committed window does not grow", narrowing::no_growing),
+    ("02, change 4: tick by tick", narrowing::tick_by_tick),
+    ("02, change 4: the number up to 65,535", narrowing::up_to_the_most),
+    ("02, change 4: refusals in their order", narrowing::refusals),
+    ("02, change 4: numbers that are read", narrowing::numbers_read),
+    ("02, change 4: numbers that are written", narrowing::numbers_written),
     ("000, examples 1 and 2: trains", trains),
     ("000, example 3: earliest to latest", trains_earliest_to_latest),
     ("000, examples 4 to 6: a train commits", trains_commitment),
@@ -111,7 +122,8 @@ impl Stored<'_> {
 
     fn commit(&mut self, record: &[u8], event: u32, open: u32, close: u32) -> Option<Vec<u8>> {
         self.trial.rewrite_record(record, calls::RECORD);
-        self.both_solvers(false, |trial| trial.commit(record, Commitment { event, open, close }, ENOUGH))
+        let tiny = reading::record(record).is_ok_and(|r| r.ticket.events() <= 4 && r.ticket.horizon <= 20);
+        self.both_solvers(tiny, |trial| trial.commit(record, Commitment { event, open, close }, ENOUGH))
     }
 
     fn windows(&mut self, record: &Option<Vec<u8>>, windows: &[(u32, u32)], what: &str) {
@@ -236,7 +248,7 @@ fn latest_then_commitment(case: &mut Stored) {
 
 /// Says: commitments on a record made this way still prefer the earliest. Events 3 and 4 come after event 2 and before
 /// event 1, which comes 2 to 10 ticks after event 2. When the first of them commits, nothing widens; when the second
-/// does, the other two get 5 ticks: as wide as 7..12 and 2..5 are 8..12 and 2..6, and 9..12 and 2..7.
+/// does, the other two get 8 ticks: as wide as 7..12 and 2..5 are 8..12 and 2..6, and 9..12 and 2..7.
 fn latest_then_earliest(case: &mut Stored) {
     let ticket = ticket(12, &[2, 2, 0, 3], &[(1, 3, 0), (1, 4, 0), (3, 2, 0), (4, 2, 0), (1, 2, -2), (2, 1, 10)]);
     let plan = case.plan(&ticket);

@@ -8,8 +8,8 @@ use crate::model::stops::NO_PATH;
 use crate::model::{reading, reason, text, writing, Commitment, Prefer, Record, Rule, Solver, Ticket};
 use crate::random::Random;
 
-/// Numbers answered: 0 to 17.
-pub const NUMBERS: usize = 18;
+/// Numbers answered: 0 to 18.
+pub const NUMBERS: usize = 19;
 
 /// Calls made, how many of them the model answers with each number, and the differences found.
 #[derive(Default)]
@@ -118,30 +118,35 @@ impl<'a> Trial<'a> {
         self.expect(out.untouched_after(record.len()), "rest of the door's output", call);
     }
 
+    /// What the model says. Where it searches, flow has to say the same.
+    fn expected(&mut self, call: &dyn Fn() -> String, by: impl Fn(Solver) -> Outcome) -> Outcome {
+        let expected = by(self.solver);
+        if self.solver == Solver::Exhaustive {
+            let solved = by(Solver::Flow);
+            let ways = || format!("{}: searched {expected:?}, by flow {solved:?}", call());
+            self.expect(expected == solved, "the model's two ways", ways);
+        }
+        expected
+    }
+
     /// Planning of these bytes; the record, if accepted.
     pub fn plan(&mut self, prefer: Prefer, ticket: &[u8], lengths: Lengths) -> Option<Vec<u8>> {
-        let expected = calls::plan(ticket, prefer, self.solver);
+        let call = || format!("{prefer:?} plan {} with {lengths:?}", hex(ticket));
+        let expected = self.expected(&call, |solver| calls::plan(ticket, prefer, solver));
         let library = self.library;
-        self.planning(
-            &expected,
-            lengths,
-            &|| format!("{prefer:?} plan {} with {lengths:?}", hex(ticket)),
-            &|out, scratch| library.plan(prefer, ticket, out, scratch),
-            &|out| library.plan_door(prefer, ticket, out),
-        )
+        let lent = |out: &mut [u8], scratch: &mut [u32]| library.plan(prefer, ticket, out, scratch);
+        let door = |out: &mut [u8]| library.plan_door(prefer, ticket, out);
+        self.planning(&expected, lengths, &call, &lent, &door)
     }
 
     /// A commitment on these bytes; the record, if accepted.
     pub fn commit(&mut self, record: &[u8], commitment: Commitment, lengths: Lengths) -> Option<Vec<u8>> {
-        let expected = calls::commit(record, commitment, self.solver);
+        let call = || format!("commit {commitment:?} on {} with {lengths:?}", hex(record));
+        let expected = self.expected(&call, |solver| calls::commit(record, commitment, solver));
         let library = self.library;
-        self.planning(
-            &expected,
-            lengths,
-            &|| format!("commit {commitment:?} on {} with {lengths:?}", hex(record)),
-            &|out, scratch| library.commit(record, commitment, out, scratch),
-            &|out| library.commit_door(record, commitment, out),
-        )
+        let lent = |out: &mut [u8], scratch: &mut [u32]| library.commit(record, commitment, out, scratch);
+        let door = |out: &mut [u8]| library.commit_door(record, commitment, out);
+        self.planning(&expected, lengths, &call, &lent, &door)
     }
 
     /// The table of H, n and rules; what the output holds afterwards.

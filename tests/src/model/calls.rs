@@ -1,7 +1,7 @@
 //! The calls: what is answered and written, from everything that is lent.
 
 use super::{distances, exhaustive, reading, reason, rings, stops, writing};
-use super::{Commitment, Prefer, Record, Rule, Solver, Ticket, Window};
+use super::{Commitment, Prefer, Record, Rule, Solver, Ticket, Window, MOST_ACCEPTED};
 
 /// Least sizes: bytes of a ticket's and a record's output, numbers of scratch, numbers of a table, bytes of a reason's output.
 pub const TICKET: usize = 1_584;
@@ -54,8 +54,8 @@ pub fn plan(bytes: &[u8], prefer: Prefer, solver: Solver) -> Outcome {
     Ok((Record::new(ticket, windows), total))
 }
 
-/// A commitment on a record's bytes, once output and scratch are long enough. It prefers the earliest, whatever made the
-/// record.
+/// A commitment on a record's bytes, once output and scratch are long enough. The event may have been committed before:
+/// its present window counts either way. The earliest is preferred, whatever made the record.
 pub fn commit(bytes: &[u8], commitment: Commitment, solver: Solver) -> Outcome {
     let mut record = reading::record(bytes)?;
     if !fit(&record, solver) {
@@ -65,12 +65,12 @@ pub fn commit(bytes: &[u8], commitment: Commitment, solver: Solver) -> Outcome {
         return Err(11);
     }
     let place = commitment.event as usize - 1;
-    if record.committed[place] {
-        return Err(12);
-    }
     let window = record.windows[place];
     if !(window.open <= commitment.open && commitment.open <= commitment.close && commitment.close <= window.close) {
         return Err(13);
+    }
+    if record.accepted == MOST_ACCEPTED {
+        return Err(18);
     }
     let ranges = record.ranges_after(commitment);
     let windows = record.ticket.best(&ranges, Prefer::Earliest, solver);
@@ -216,7 +216,7 @@ pub fn write_record(loose: &LooseRecord, out: &mut [u8]) -> (u32, u32) {
         let committed: Vec<bool> = places.clone().map(|k| loose.flags[k] == 1).collect();
         reading::accepted_in_range(loose.number, &committed)?;
         let windows = places.map(window).collect();
-        Ok(writing::record(&Record { ticket, committed, windows, accepted: loose.number as u16 }))
+        Ok(writing::record(&Record { ticket, committed, windows, accepted: loose.number }))
     })
 }
 

@@ -34,12 +34,13 @@ pub struct Window {
     pub close: u32,
 }
 
+/// The last number counts every accepted commitment, also those of an event that was committed before.
 #[derive(Clone, Debug, PartialEq, Eq)]
 pub struct Record {
     pub ticket: Ticket,
     pub committed: Vec<bool>,
     pub windows: Vec<Window>,
-    pub accepted: u16,
+    pub accepted: u32,
 }
 
 /// An event (1 to n) and the window it commits to.
@@ -74,8 +75,16 @@ pub enum Prefer {
 
 pub const BOTH: [Prefer; 2] = [Prefer::Earliest, Prefer::Latest];
 
+/// The greatest number of accepted commitments: two bytes hold it.
+pub const MOST_ACCEPTED: u32 = 65_535;
+
 /// What a tick of width counts, by owner.
 pub const WORTH: [i64; 5] = [1, 1, 1, 1, 1];
+
+/// How many flags are set.
+pub fn flags(committed: &[bool]) -> u32 {
+    committed.iter().filter(|&&flag| flag).count() as u32
+}
 
 impl Ticket {
     pub fn events(&self) -> usize {
@@ -119,7 +128,8 @@ impl Record {
         Record { committed: vec![false; windows.len()], ticket, windows, accepted: 0 }
     }
 
-    /// What each window may be after an event commits: committed ones stay, free ones keep all they had.
+    /// What each window may be after an event commits, be it for the first time or again: its own is the one named, the other
+    /// committed ones stay, free ones keep all they had.
     pub fn ranges_after(&self, commitment: Commitment) -> Vec<Range> {
         let fixed = |w: &Window| Range { open: (w.open, w.open), close: (w.close, w.close) };
         let mut ranges: Vec<Range> = Vec::new();

@@ -1,6 +1,6 @@
 //! Bytes to tickets and records: field by field in byte order, presence before value.
 
-use super::{Record, Rule, Ticket, Window};
+use super::{flags, Record, Rule, Ticket, Window, MOST_ACCEPTED};
 
 struct Fields<'a> {
     bytes: &'a [u8],
@@ -61,9 +61,9 @@ pub fn window_in_range(flag: u8, window: Window, horizon: u32) -> Result<(), u32
     require(flag <= 1 && window.open <= window.close && window.close <= horizon, 14)
 }
 
-/// The last number: that of the set flags.
+/// The last number: at least that of the set flags.
 pub fn accepted_in_range(accepted: u32, committed: &[bool]) -> Result<(), u32> {
-    require(accepted as usize == committed.iter().filter(|&&flag| flag).count(), 14)
+    require((flags(committed)..=MOST_ACCEPTED).contains(&accepted), 14)
 }
 
 fn ticket_fields(fields: &mut Fields) -> Result<Ticket, u32> {
@@ -114,5 +114,5 @@ pub fn record(bytes: &[u8]) -> Result<Record, u32> {
     let accepted = fields.number(2)?;
     accepted_in_range(accepted, &committed)?;
     require(fields.bytes.is_empty(), 8)?;
-    Ok(Record { ticket, committed, windows, accepted: accepted as u16 })
+    Ok(Record { ticket, committed, windows, accepted })
 }

@@ -23,7 +23,7 @@ pub fn record(record: &Record) -> Vec<u8> {
         bytes.extend(window.open.to_le_bytes());
         bytes.extend(window.close.to_le_bytes());
     }
-    bytes.extend(record.accepted.to_le_bytes());
+    bytes.extend((record.accepted as u16).to_le_bytes());
     bytes
 }
 
