@@ -482,6 +482,15 @@ for number, row in enumerate(rows):
     print(number, name, answer, sep="|")
 CASES
 good $(($(wc -l <"$work/reasons") != $(grep -c -v '^#' "$here/reasons.txt"))) 'every line of reasons.txt'
+# misused NAME FORM WORDS: an example program, made by $compiler, called with words that are not of its form
+misused() {
+    # shellcheck disable=SC2086
+    "$work/$1" $3 <examples/tickets/p1.ticket >"$work/got" 2>"$work/errors"
+    good $(($? != 2)) "$1 called with '$3', with $compiler: exit status"
+    echo "usage: $1 $2 <TICKET" >"$work/wanted"
+    same "$1 called with '$3', with $compiler" "$work/wanted" "$work/errors"
+    if [ -s "$work/got" ]; then fail "$1 called with '$3', with $compiler: wrote to standard output"; else pass; fi
+}
 for compiler in gcc clang; do
     command -v $compiler >/dev/null || continue
     $compiler -std=c99 -Wall -Wextra -Werror -pedantic -Iinclude examples/host.c "$library" -o "$work/host" && "$work/host" >"$work/got"
@@ -523,14 +532,7 @@ TABLES
     "$work/table" stops <examples/tickets/session.ticket >"$work/stops"
     tail -n 10 "$work/stops" >"$work/got"
     same "the session's last table, with $compiler" "$work/wanted" "$work/got"
-    for words in stop Stops 'stops stops' 'stops 1' 1 -h; do
-        # shellcheck disable=SC2086
-        "$work/table" $words <examples/tickets/p1.ticket >"$work/got" 2>"$work/errors"
-        good $(($? != 2)) "table called with '$words', with $compiler: exit status"
-        echo 'usage: table [stops] <TICKET' >"$work/wanted"
-        same "table called with '$words', with $compiler" "$work/wanted" "$work/errors"
-        if [ -s "$work/got" ]; then fail "table called with '$words', with $compiler: wrote to standard output"; else pass; fi
-    done
+    for words in stop Stops 'stops stops' 'stops 1' 1 -h; do misused table '[stops]' "$words"; done
     $compiler -std=c99 -Wall -Wextra -Werror -pedantic -Iinclude examples/commit.c "$library" -o "$work/commit"
     good $? "examples/commit.c with $compiler"
     while IFS='|' read -r name words wanted; do
@@ -560,12 +562,7 @@ RUNS
         same "the plan of $ticket before commitments, with $compiler" "$work/wanted" "$work/got"
     done
     for words in 1 '1 6' '1 6 10 1' '1 6 10 1 10' 'shutter 6 10' '1 6..10' '1 -6 10' '1 +6 10' '1 6 10x' '1 6 0xa' '1 6 4294967296' '1 6 18446744073709551626' -h; do
-        # shellcheck disable=SC2086
-        "$work/commit" $words <examples/tickets/p1.ticket >"$work/got" 2>"$work/errors"
-        good $(($? != 2)) "commit called with '$words', with $compiler: exit status"
-        echo 'usage: commit [EVENT OPEN CLOSE].. <TICKET' >"$work/wanted"
-        same "commit called with '$words', with $compiler" "$work/wanted" "$work/errors"
-        if [ -s "$work/got" ]; then fail "commit called with '$words', with $compiler: wrote to standard output"; else pass; fi
+        misused commit '[EVENT OPEN CLOSE]..' "$words"
     done
     $compiler -std=c99 -Wall -Wextra -Werror -pedantic -Iinclude examples/reason.c "$library" -o "$work/reason"
     good $? "examples/reason.c with $compiler"
