@@ -35,31 +35,45 @@ fn window(record: &[u8], at: usize)
     print::number(script::four(record, at + 5));
 }
 
-// The windows of the record that ends at a place, and its last number.
+// The counts of five devices.
+fn counts(record: &[u8], at: usize)
+    requires { ⌜ at ≤ 3000 ⌝ }
+{
+    let mut o = 0;
+    while o < 5 {
+        print::number(script::two(record, at + 2 * o));
+        o += 1;
+    }
+}
+
+// The windows of the record that ends at a place, and its counts.
 fn windows(record: &[u8], end: usize)
     requires { ⌜ end ≤ 2048 ⌝ }
 {
-    let back = 2 + 9 * script::two(record, 4) as usize;
+    let back = 12 + 9 * script::two(record, 4) as usize;
     if end < back {
         return;
     }
     let mut at = end - back;
-    while at + 2 < end {
+    while at + 12 < end {
         window(record, at);
         at += 9;
     }
-    print::number(script::two(record, at));
+    counts(record, at + 2);
 }
 
-// Whether an accepted record begins with the ticket of `given`, and then has as many windows as that has events.
+// Whether an accepted record begins with the ticket of `given`, and then has as many windows as that has events, and five counts.
 fn begins(a: Answer, given: &[u8], out: &[u8]) -> bool {
     let n = script::two(out, 4);
     let end = script::least(a.length, 2048);
-    let back = 4 + 9 * n as usize;
+    let back = 14 + 9 * n as usize;
     if end < back {
         return a.number != 0;
     }
     if script::two(out, end - back) != n {
+        return false;
+    }
+    if script::two(out, end - 12) != 5 {
         return false;
     }
     check::same(lent::part(out, end - back), lent::part(given, end - back))

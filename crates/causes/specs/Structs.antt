@@ -1,4 +1,4 @@
--- A record that the code hands on is Canonical: what it says is readable, with zeros past its events in the arrays of windows and flags.
+-- A record that the code hands on is Canonical: what it says is readable, with zeros past its events in the arrays of windows and flags, and with five counts.
 -- What a struct says is `ticket`'s `content` and `stateOf`; of its arrays alone `potentials` says it.
 use mathlib.Core.Path.{_≡_, refl, sym, ap, subst, _∙_}
 use mathlib.Core.Bool.{Bool, true, false}
@@ -11,12 +11,13 @@ use lib.Seq.{getD-append-add, getD-set-other}
 use Rattle.temporal.specs.Lists.{below-or-not, by-points, getD-past}
 use Rattle.temporal.specs.Ticket as temporal
 use Rattle.temporal.specs.Ticket.{Window, events, origin}
-use Rattle.temporal.specs.Plan.{State}
+use Rattle.temporal.specs.Plan.{State, countOf}
 use Rattle.temporal.specs.Run.{Valid, Readable}
 use Rattle.network.specs.Stored.{at}
 use Rattle.network.specs.Lists.{zeros-at}
-use Rattle.ticket.specs.Agree.{field-at, state-stored}
-use Rattle.ticket.specs.Writing.{content, stateOf, Storable}
+use Rattle.ticket.specs.Agree.{field-at, counts-all, state-stored}
+use Rattle.ticket.specs.Writing.{firsts, content, stateOf, Storable}
+use Rattle.ticket.specs.WritingLaws.{length-firsts, getD-firsts}
 use Rattle.ticket.specs.Stored.{pad, storedState}
 use Rattle.ticket.specs.Writer.{flagByte}
 use Rattle.ticket.specs.Content.{in-events, in-rules}
@@ -56,12 +57,16 @@ module _ {A : Type 0} (f : A → ℕ) (xs : List A) (few : length xs ≤ 40) whe
         ∙ zeros-at (40 - length (map f xs)) (i - length (map f xs));
   }
 
+five-padded : (ks : List ℕ) → length ks ≡ 5 → length (pad 0 5 ks) ≡ 5
+unfolding pad
+five-padded ks e = simp (length-append, length-replicate) (omega (arith, e))
+
 module _ (s : State) (ok : Readable s) where
   few : length (s .windows) ≤ 40
   few = omega (arith, ok .windows-count, ok .valid .events-limit)
 
   pub state-of : stateOf (storedState s) ≡ s
-  state-of = state-stored s (ok .windows-count) (ok .flags-count)
+  state-of = state-stored s (ok .windows-count) (ok .flags-count) (ok .counts-count)
 
 -- ---- a record that the code hands on
 
@@ -70,6 +75,7 @@ pub record Canonical (r : Record) : Type 0 where
   pub opens-past : Past (r .ticket .events) (r .opens)
   pub closes-past : Past (r .ticket .events) (r .closes)
   pub bits : (i : ℕ) → at (r .flags) i ≤ 1
+  pub counts-long : length (r .counts) ≡ 5
   pub readable : Readable (stateOf r)
 
 pub canonical-read : (s : State) → Readable s → Canonical (storedState s)
@@ -78,6 +84,7 @@ canonical-read s ok = record {
   opens-past = subst (λ n. Past n (storedState s .opens)) (ok .windows-count) (pad-past (λ (w : Window). w .opens) (s .windows) (few s ok));
   closes-past = subst (λ n. Past n (storedState s .closes)) (ok .windows-count) (pad-past (λ (w : Window). w .closes) (s .windows) (few s ok));
   bits = λ i. by i (below-or-not i (length (s .flags)));
+  counts-long = five-padded (s .counts) (ok .counts-count);
   readable = subst Readable (sym (state-of s ok)) ok;
 }
   where
@@ -109,6 +116,10 @@ module _ (r : Record) (ok : Canonical r) where
       (λ i l. ap (λ (w : Window). w .closes) (window-at (r .ticket .events) (r .opens) (r .closes) i l))
       (λ q l. ap (λ (w : Window). w .closes) (getD-past (origin ∷ stateOf r .windows) origin q (omega (arith, ok .readable .windows-count, counted))) ∙ sym (past-point (ok .closes-past) q l))
 
+  -- the count of a device
+  pub count-of : (o : ℕ) → countOf (stateOf r) o ≡ at (r .counts) o
+  count-of o = ap (λ ns. at ns o) (counts-all (r .counts) (ok .counts-long))
+
   pub canonical-lies : Lie (r .ticket) (r .opens) (r .closes)
   unfolding windowList
   canonical-lies = ok .readable .windows-lie
@@ -130,3 +141,15 @@ lies-asked {r} ok = (ok .readable .valid, canonical-lies r ok)
 pub point-in : (xs : List ℕ) (p : ℕ) → (p ≡ 0 → ⊥) → at xs (p - 1) ≡ at (0 ∷ xs) p
 point-in xs zero n = absurd (n refl)
 point-in xs (suc i) n = ap (at xs) (omega arith)
+
+-- the owner of a point, in the array of owners f, of which n are an event's
+module _ (n : ℕ) (f : ℕ → ℕ) where
+  pub owner-in : (p : ℕ) → 1 ≤ p → p ≤ n → f (p - 1) ≡ getD (5 ∷ firsts n f) p 5
+  owner-in zero l m = absurd (none l)
+    where
+      none : 1 ≤ 0 → ⊥
+      none g = omega arith
+  owner-in (suc i) l m = ap f (omega arith) ∙ sym (getD-firsts n f 5 i (omega arith))
+
+  pub owner-past : (p : ℕ) → n < p → getD (5 ∷ firsts n f) p 5 ≡ 5
+  owner-past p l = getD-past (5 ∷ firsts n f) 5 p (omega (arith, length-firsts n f))

@@ -6,9 +6,9 @@ ghost use mathlib.Core.List.{_∷_};
 ghost use Prim.Native.Nat.{_≤_};
 ghost use mathlib.Core.Bool.{not, _&&_, _||_};
 ghost use lib.Dec.{leb, ltb};
-ghost use lib.ListN.{length};
+ghost use lib.ListN.{length, getD};
 ghost use Rattle.temporal.specs.Plan.{cause, asking};
-ghost use Rattle.ticket.specs.Writing.{stateOf};
+ghost use Rattle.ticket.specs.Writing.{firsts, stateOf};
 ghost use Rattle.network.specs.Stored.{at};
 ghost use Rattle.runs.specs.Calls.{cleared};
 ghost use Rattle.causes.specs.Structs.{Canonical};
@@ -23,7 +23,7 @@ const SCRATCH: usize = 8192;
 
 // Whether an output or scratch of these lengths is too short.
 pub fn short(out: usize, scratch: usize) -> bool
-    ensures { λ r. ⌜ r ≡ not (leb 1948 out && leb 8192 scratch) ⌝ }
+    ensures { λ r. ⌜ r ≡ not (leb 1958 out && leb 8192 scratch) ⌝ }
 {
     if out < ticket::RECORD_BYTES {
         return true;
@@ -56,9 +56,9 @@ fn outside(opens: u32, closes: u32, first: u32, last: u32) -> bool
     last < closes
 }
 
-// The first cause to refuse a commitment, 0 if there is none: of n events, whether the window leaves the event's, and the number of accepted commitments.
-fn first_cause(fit: bool, n: u32, event: u32, leaves: bool, number: u32) -> u32
-    ensures { λ r. ⌜ r ≡ firstCause fit n event leaves number ⌝ }
+// The first cause to refuse a commitment, 0 if there is none: of n events, whether the window leaves the event's, and the count of the event's owner.
+fn first_cause(fit: bool, n: u32, event: u32, leaves: bool, count: u32) -> u32
+    ensures { λ r. ⌜ r ≡ firstCause fit n event leaves count ⌝ }
 {
     if !fit {
         return 15;
@@ -72,7 +72,7 @@ fn first_cause(fit: bool, n: u32, event: u32, leaves: bool, number: u32) -> u32
     if leaves {
         return 13;
     }
-    if number == ticket::NUMBER {
+    if count == ticket::COUNT_MAX {
         return 18;
     }
     0
@@ -92,6 +92,28 @@ fn number_at(xs: &[u32; Ticket::EVENTS], event: u32) -> u32
     xs[event as usize - 1]
 }
 
+// The device that owns an event, 5 where there is no such event.
+pub fn owner_of(n: u32, owners: [u8; Ticket::EVENTS], event: u32) -> usize
+    requires { ⌜ n ≤ 40 ⌝ }
+    ensures { λ r. ⌜ r ≡ getD (5 ∷ firsts n (λ i. at owners i)) event 5 ⌝ }
+{
+    if event == 0 {
+        return 5;
+    }
+    if n < event {
+        return 5;
+    }
+    let owner = owners[event as usize - 1];
+    ticket::wide(owner)
+}
+
+// The count of a device, 0 for no device.
+fn count_of(counts: [u32; ticket::DEVICES], o: usize) -> u32
+    ensures { λ r. ⌜ r ≡ at counts o ⌝ }
+{
+    if o < ticket::DEVICES { counts[o] } else { 0 }
+}
+
 // The first cause to refuse a commitment to the record.
 pub fn cause(r: ticket::Record, event: u32, opens: u32, closes: u32) -> u32
     requires { ⌜ Canonical r ⌝ }
@@ -108,5 +130,9 @@ pub fn cause(r: ticket::Record, event: u32, opens: u32, closes: u32) -> u32
         number_at(&firsts, event),
         number_at(&lasts, event),
     );
-    first_cause(fit, n, event, leaves, r.number)
+    let owners = t.owners;
+    let o = owner_of(n, owners, event);
+    let counts = r.counts;
+    let count = count_of(counts, o);
+    first_cause(fit, n, event, leaves, count)
 }

@@ -190,14 +190,27 @@ fn ticket_of(s: &[u8]) -> Ticket {
     }
 }
 
-// The same of a record of 1,948 bytes.
+// Counts of five devices.
+fn device_counts(s: &[u8], start: usize) -> [u32; ticket::DEVICES]
+    requires { ⌜ start ≤ 2000 ⌝ }
+{
+    let mut field = [0u32; ticket::DEVICES];
+    let mut o = 0;
+    while o < ticket::DEVICES {
+        field[o] = script::two(s, start + 2 * o);
+        o += 1;
+    }
+    field
+}
+
+// The same of a record of 1,958 bytes.
 fn record_of(s: &[u8]) -> Record {
     Record {
         ticket: ticket_of(s),
         flags: event_bytes(s, 1586, 9),
         opens: event_numbers(s, 1587),
         closes: event_numbers(s, 1591),
-        number: script::two(s, 1946),
+        counts: device_counts(s, 1948),
     }
 }
 

@@ -69,8 +69,8 @@ module _ (bytes out : List ℕ) (n : ℕ) where
       go (got k rest) q = absurd (h q)
       go (refused c) q = rw q
 
-  pub record-refused : 1948 ≤ length out → n ≡ wholeRecord bytes .number → n ≢ 0 → rewriting 1948 readState bytes out ≡ unwritten n out
-  record-refused l e h = rewriting-read 1948 readState bytes out l ∙ go (wholly readState bytes) e
+  pub record-refused : 1958 ≤ length out → n ≡ wholeRecord bytes .number → n ≢ 0 → rewriting 1958 readState bytes out ≡ unwritten n out
+  record-refused l e h = rewriting-read 1958 readState bytes out l ∙ go (wholly readState bytes) e
     where
       go : (x : Out State) → n ≡ planned 0 x .number → rewritten bytes out x ≡ unwritten n out
       go (got s rest) q = absurd (h q)
@@ -86,9 +86,9 @@ module _ (bytes out : List ℕ) (b : Bytes bytes) where
       go (got k rest) q z = (reread out bytes k rest b q l, refl)
       go (refused c) q z = absurd (omega (arith, number-some c))
 
-  pub record-again : 1948 ≤ length out → wholeRecord bytes .number ≡ 0
-      → (writingRecord out (wholeRecord bytes .plan) [] ≡ got bytes []) × (rewriting 1948 readState bytes out ≡ again bytes out)
-  record-again l e = rw (rewriting-read 1948 readState bytes out l) (go (wholly readState bytes) refl e)
+  pub record-again : 1958 ≤ length out → wholeRecord bytes .number ≡ 0
+      → (writingRecord out (wholeRecord bytes .plan) [] ≡ got bytes []) × (rewriting 1958 readState bytes out ≡ again bytes out)
+  record-again l e = rw (rewriting-read 1958 readState bytes out l) (go (wholly readState bytes) refl e)
     where
       go : (x : Out State) → wholly readState bytes ≡ x → planned 0 x .number ≡ 0
           → (writingRecord out (planned 0 x .plan) [] ≡ got bytes []) × (rewritten bytes out x ≡ again bytes out)

@@ -30,8 +30,9 @@ valued h n os m fs ts bs =
       bound = placed (pos 0) 256 bs;
     }
 
-abbrev pub recorded : Ticket → List ℕ → List ℕ → List ℕ → ℕ → Record
-recorded t fs os cs k = record { ticket = t; flags = placed 0 40 fs; opens = placed 0 40 os; closes = placed 0 40 cs; number = k }
+abbrev pub recorded : Ticket → List ℕ → List ℕ → List ℕ → List ℕ → Record
+recorded t fs os cs ks =
+    record { ticket = t; flags = placed 0 40 fs; opens = placed 0 40 os; closes = placed 0 40 cs; counts = placed 0 5 ks }
 
 -- One more.
 pub placed-more : {A : Type 0} (z : A) (k : ℕ) (s : List A) (i : ℕ) → i < length s → i < k
@@ -54,6 +55,6 @@ pub valued-of : (h n m : ℕ) (o os f fs t ts : List ℕ) (b bs : List ℤ) → 
     → _≡_ {A = Ticket} (record { horizon = h; events = n; owners = o; rules = m; from = f; to = t; bound = b }) (valued h n os m fs ts bs)
 valued-of h n m o os f fs t ts b bs eo ef et eb = rw (eo, ef, et, eb)
 
-pub recorded-of : (t v : Ticket) (f fs o os c cs : List ℕ) (k : ℕ) → t ≡ v → f ≡ placed 0 40 fs → o ≡ placed 0 40 os → c ≡ placed 0 40 cs
-    → _≡_ {A = Record} (record { ticket = t; flags = f; opens = o; closes = c; number = k }) (recorded v fs os cs k)
-recorded-of t v f fs o os c cs k et ef eo ec = rw (et, ef, eo, ec)
+pub recorded-of : (t v : Ticket) (f fs o os c cs k ks : List ℕ) → t ≡ v → f ≡ placed 0 40 fs → o ≡ placed 0 40 os → c ≡ placed 0 40 cs → k ≡ placed 0 5 ks
+    → _≡_ {A = Record} (record { ticket = t; flags = f; opens = o; closes = c; counts = k }) (recorded v fs os cs ks)
+recorded-of t v f fs o os c cs k ks et ef eo ec ek = rw (et, ef, eo, ec, ek)

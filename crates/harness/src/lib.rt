@@ -105,9 +105,9 @@ pub extern "C" fn harness_rewrite_ticket(ticket: &[u8], out: &mut [u8], size: &m
 
 #[no_mangle]
 pub extern "C" fn harness_rewrite_record(record: &[u8], out: &mut [u8], size: &mut u32) -> u32
-    ensures { λ r. ⌜ r ≡ rewriting 1948 readState (now («record» .entry)) (now (out .entry)) .number ⌝ }
-    ensures { λ _. ⌜ now (out .exit) ≡ rewriting 1948 readState (now («record» .entry)) (now (out .entry)) .out ⌝ }
-    ensures { λ _. ⌜ now (size .exit) ≡ rewriting 1948 readState (now («record» .entry)) (now (out .entry)) .length ⌝ }
+    ensures { λ r. ⌜ r ≡ rewriting 1958 readState (now («record» .entry)) (now (out .entry)) .number ⌝ }
+    ensures { λ _. ⌜ now (out .exit) ≡ rewriting 1958 readState (now («record» .entry)) (now (out .entry)) .out ⌝ }
+    ensures { λ _. ⌜ now (size .exit) ≡ rewriting 1958 readState (now («record» .entry)) (now (out .entry)) .length ⌝ }
 {
     *size = 0;
     if out.len() < ticket::RECORD_BYTES {
@@ -125,7 +125,7 @@ pub extern "C" fn harness_rewrite_record(record: &[u8], out: &mut [u8], size: &m
     written.number
 }
 
-// The first 40 numbers of s, then zeros; and so the first 256. Owners and flags are bytes.
+// The first 40 numbers of s, then zeros; and so the first 256, and the first 5. Owners and flags are bytes.
 fn byte_places(s: &[u8]) -> [u8; 40]
     ensures { λ r. ⌜ r ≡ placed 0 40 (now (s .entry)) ⌝ }
 {
@@ -171,6 +171,19 @@ fn tick_places(s: &[u32]) -> [u32; 40]
 {
     let mut places = [0u32; 40];
     let n = table::lesser(s.len(), 40);
+    let mut i = 0;
+    while i < n {
+        places[i] = s[i];
+        i += 1;
+    }
+    places
+}
+
+fn count_places(s: &[u32]) -> [u32; 5]
+    ensures { λ r. ⌜ r ≡ placed 0 5 (now (s .entry)) ⌝ }
+{
+    let mut places = [0u32; 5];
+    let n = table::lesser(s.len(), 5);
     let mut i = 0;
     while i < n {
         places[i] = s[i];
@@ -245,33 +258,34 @@ pub extern "C" fn harness_write_record(
     flags: &[u8],
     opens: &[u32],
     closes: &[u32],
-    number: u32,
+    counts: &[u32],
     out: &mut [u8],
     size: &mut u32,
 ) -> u32
     ensures { λ r.
         ⌜ r ≡ recordWritten (now (out .entry))
         (recorded (valued horizon events (now (owners .entry)) rules (now (from .entry)) (now (to .entry)) (now (bound .entry)))
-        (now (flags .entry)) (now (opens .entry)) (now (closes .entry)) number) .number ⌝ }
+        (now (flags .entry)) (now (opens .entry)) (now (closes .entry)) (now (counts .entry))) .number ⌝ }
     ensures { λ _.
         ⌜ now (out .exit) ≡ recordOutput (now (out .entry))
         (recorded (valued horizon events (now (owners .entry)) rules (now (from .entry)) (now (to .entry)) (now (bound .entry)))
-        (now (flags .entry)) (now (opens .entry)) (now (closes .entry)) number) ⌝ }
+        (now (flags .entry)) (now (opens .entry)) (now (closes .entry)) (now (counts .entry))) ⌝ }
     ensures { λ _.
         ⌜ now (size .exit) ≡ Rewriting·narrow (recordWritten (now (out .entry))
         (recorded (valued horizon events (now (owners .entry)) rules (now (from .entry)) (now (to .entry)) (now (bound .entry)))
-        (now (flags .entry)) (now (opens .entry)) (now (closes .entry)) number) .length) ⌝ }
+        (now (flags .entry)) (now (opens .entry)) (now (closes .entry)) (now (counts .entry))) .length) ⌝ }
 {
     let t = ticket_of(horizon, events, owners, rules, from, to, bound);
     let f = byte_places(flags);
     let o = tick_places(opens);
     let c = tick_places(closes);
+    let k = count_places(counts);
     let record = ticket::Record {
         ticket: t,
         flags: f,
         opens: o,
         closes: c,
-        number,
+        counts: k,
     };
     let written = writing_records::write_record(record, out);
     let n = written.length;

@@ -23,7 +23,7 @@ use Rattle.mirror.specs.Structs.{Below}
 
 -- the windows of the plan, of the latest one where `late` says so; or no schedule
 pub record PlannedFor (late : Bool) (t : Ticket) (opens closes opens' closes' : List ℕ) (r : Bool) : Type 0 where
-  pub answer : planFor late (content t) ≡ cond r (accepted (stateIn t (replicate 40 0) opens' closes' 0)) (refused 9)
+  pub answer : planFor late (content t) ≡ cond r (accepted (stateIn t (replicate 40 0) opens' closes' (replicate 5 0))) (refused 9)
   pub lie : r ≡ true → Lie t opens' closes'
   pub opens-past : Within (t .events) opens opens'
   pub closes-past : Within (t .events) closes closes'
@@ -100,6 +100,6 @@ module _ (t m : Ticket) (ok : Valid (content t)) (e : content m ≡ cutMirror (c
               ticket = content t;
               windows = mirrorWindows (t .horizon) (windowList n opens closes);
               flags = flagList n (replicate 40 0);
-              count = 0;
-            }) ≡ accepted (stateIn t (replicate 40 0) opens' closes' 0)
-        back n s = rw s (λ i. accepted (record { ticket = content t; windows = sym w i; flags = flagList (t .events) (replicate 40 0); count = 0 }))
+              counts = replicate 5 0;
+            }) ≡ accepted (stateIn t (replicate 40 0) opens' closes' (replicate 5 0))
+        back n s = rw s (λ i. accepted (record { ticket = content t; windows = sym w i; flags = flagList (t .events) (replicate 40 0); counts = replicate 5 0 }))

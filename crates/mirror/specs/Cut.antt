@@ -63,7 +63,7 @@ Possible h r = (r .from ≡ 0 → below (r .bound) ≡ 0) × (r .to ≡ 0 → be
 -- the answer to the mirror, turned back: the windows mirrored, the ticket the one that was asked
 abbrev pub turnedBack : Ticket → Answer → Answer
 turnedBack k (refused r) = refused r
-turnedBack k (accepted s) = accepted (record { ticket = k; windows = mirrorWindows (k .horizon) (s .windows); flags = s .flags; count = s .count })
+turnedBack k (accepted s) = accepted (record { ticket = k; windows = mirrorWindows (k .horizon) (s .windows); flags = s .flags; counts = s .counts })
 
 -- ---- signs
 

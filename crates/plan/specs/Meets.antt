@@ -158,16 +158,16 @@ told-short : (out z : List ℕ) {whole : Outcome} → whole ≡ withoutRoom out 
 told-short out z e = (ap (λ (x : Outcome). x .number) (sym e), ap (λ (x : Outcome). x .out) (sym e))
 
 module _ (out z : List ℕ) where
-  pub planned-short : (ticket : List ℕ) → length out < 1948 → Told (planning ticket out z) 10 out
+  pub planned-short : (ticket : List ℕ) → length out < 1958 → Told (planning ticket out z) 10 out
   planned-short ticket l = told-short out z (planning-short ticket out z (no-room-out out z l))
 
-  pub latest-short : (ticket : List ℕ) → length out < 1948 → Told (planningLatest ticket out z) 10 out
+  pub latest-short : (ticket : List ℕ) → length out < 1958 → Told (planningLatest ticket out z) 10 out
   latest-short ticket l = told-short out z (planningLatest-short ticket out z (no-room-out out z l))
 
-  pub committed-short : (bytes : List ℕ) (event opens closes : ℕ) → length out < 1948 → Told (committing bytes event opens closes out z) 10 out
+  pub committed-short : (bytes : List ℕ) (event opens closes : ℕ) → length out < 1958 → Told (committing bytes event opens closes out z) 10 out
   committed-short bytes event opens closes l = told-short out z (committing-short bytes event opens closes out z (no-room-out out z l))
 
-  module _ (l : 1948 ≤ length out) (m : 8192 ≤ length z) {s : List ℕ} {a : Answer} {out′ s′ : List ℕ} where
+  module _ (l : 1958 ≤ length out) (m : 8192 ≤ length z) {s : List ℕ} {a : Answer} {out′ s′ : List ℕ} where
     pub planned-told : (ticket : List ℕ) → Meets (afterReading out s plan (wholly readTicket ticket)) s a out′ s′ → Told (planning ticket out z) (a .number) out′
     planned-told ticket h = told-read out s z plan (wholly readTicket ticket) (planning-read ticket out z (enough-room out z l m)) h
 

@@ -1,5 +1,5 @@
 -- One planning and one commitment as the code takes them: what is asked of `latest` and `windows`, what comes back, and that it is kept.
-use mathlib.Core.Path.{_≡_, sym, ap, subst, _∙_}
+use mathlib.Core.Path.{_≡_, refl, sym, ap, subst, _∙_}
 use mathlib.Core.Bool.{Bool, true, false, cond}
 use mathlib.Core.List.{List, [], _∷_}
 use Prim.Native.Nat.{ℕ, _+_, _-_, _≤_, _<_}
@@ -7,25 +7,26 @@ use native.Mathlib.Numerals.{add-one}
 use native.Mathlib.Omega.{arith}
 use native.Mathlib.Decide.{ℕ-discrete}
 use borrow.Author.Tests.{ne-eqb}
-use lib.ListN.{length, set, replicate}
+use lib.ListN.{length, set, replicate, length-set}
 use lib.Seq.{getD-set-same, getD-set-other}
 use Rattle.temporal.specs.Ticket.{Ticket}
-use Rattle.temporal.specs.Plan.{State, Commitment, accepted, refused, planFor, cause, commit, asking}
+use Rattle.temporal.specs.Plan.{State, ownerOf, raise, Commitment, accepted, refused, planFor, cause, commit, asking}
 use Rattle.temporal.specs.Run.{Valid, Readable, Acceptable}
 use Rattle.temporal.specs.Run as states
-use Rattle.temporal.specs.Causes.{acceptable, cause-number}
+use Rattle.temporal.specs.Causes.{acceptable, cause-counts}
 use Rattle.temporal.specs.RunHolds as states-hold
 use Rattle.temporal.specs.LatestRun.{plan-for}
 use Rattle.network.specs.Stored.{at}
 use Rattle.ticket.specs.Writing.{content, stateOf}
+use Rattle.ticket.specs.Agree.{counts-all}
 use Rattle.ticket.specs.Content.{in-events, in-rules}
 use Rattle.ticket.specs.declared.Ticket.{Ticket as Struct}
 use Rattle.ticket.specs.declared.Record.{Record}
-use Rattle.potentials.specs.Arrays.{Within}
+use Rattle.potentials.specs.Arrays.{windowList, flagList, Within}
 use Rattle.windows.specs.Promises.{stateIn, Workspace, Committed}
 use Rattle.windows.specs.Settle.{Asked}
 use Rattle.latest.specs.Latest.{PlannedFor}
-use Rattle.causes.specs.Structs.{Past, zeros-past, within-past, set-past, Canonical, canonical-few}
+use Rattle.causes.specs.Structs.{Past, zeros-past, within-past, set-past, Canonical, canonical-few, count-of}
 
 -- ---- what an accepted call leaves is readable
 
@@ -45,6 +46,14 @@ edges-room t net opens closes v l o c = record {
   closes-long = c;
 }
 
+-- ---- the state that a record's struct says
+
+-- by its arrays
+state-in : (t : Struct) (flags opens closes counts : List ℕ) → length counts ≡ 5
+    → stateIn t flags opens closes counts ≡ stateOf (record { ticket = t; flags = flags; opens = opens; closes = closes; counts = counts })
+unfolding windowList flagList
+state-in t flags opens closes counts l = rw (counts-all counts l) refl
+
 -- ---- a commitment that is accepted
 
 module _ (r : Record) (ok : Canonical r) (event opens closes : ℕ) where
@@ -54,25 +63,33 @@ module _ (r : Record) (ok : Canonical r) (event opens closes : ℕ) where
     edges-room (r .ticket) net (r .opens) (r .closes) (ok .readable .valid) l (ok .opens-past .long) (ok .closes-past .long),
     record {
       valid = ok .readable .valid;
-      passes = cause-number (stateOf r) (asking event opens closes) 0 (λ q. omega arith) z;
+      passes = unfold windowList flagList in cause-counts (stateOf r) (asking event opens closes) (replicate 5 0)
+          (λ q. omega (arith, q, states-hold.none-counted 5 (ownerOf (content (r .ticket)) event))) z;
       flags-long = ok .flags-past .long;
       opens-long = ok .opens-past .long;
       closes-long = ok .closes-past .long;
     },
   )
 
+  -- the record with these arrays and the count of the device o one higher
+  abbrev pub raised : (flags opens closes : List ℕ) (o : ℕ) → Record
+  raised flags′ opens′ closes′ o =
+      record { ticket = r .ticket; flags = flags′; opens = opens′; closes = closes′; counts = set (r .counts) o (at (r .counts) o + 1) }
+
   -- what a commitment leaves in the arrays is kept
-  pub canonical-committed : {flags′ opens′ closes′ : List ℕ} → cause (stateOf r) (asking event opens closes) ≡ 0
+  pub canonical-committed : {flags′ opens′ closes′ : List ℕ} {o : ℕ} → cause (stateOf r) (asking event opens closes) ≡ 0
       → Committed (r .ticket) (r .flags) (r .opens) (r .closes) flags′ opens′ closes′ event opens closes
-      → Canonical (record { ticket = r .ticket; flags = flags′; opens = opens′; closes = closes′; number = r .number + 1 })
-      × (commit (stateOf r) (asking event opens closes) ≡ accepted (stateIn (r .ticket) flags′ opens′ closes′ (r .number + 1)))
-  canonical-committed {flags′} {opens′} {closes′} z C = (
+      → o ≡ ownerOf (content (r .ticket)) event
+      → Canonical (raised flags′ opens′ closes′ o) × (commit (stateOf r) (asking event opens closes) ≡ accepted (stateOf (raised flags′ opens′ closes′ o)))
+  unfolding windowList flagList
+  canonical-committed {flags′} {opens′} {closes′} {o} z C same = (
     record {
       flags-past = subst (Past (r .ticket .events)) (sym (C .flags-are)) (set-past (event - 1) 1 inside (ok .flags-past));
       opens-past = within-past (ok .opens-past) (C .opens-past);
       closes-past = within-past (ok .closes-past) (C .closes-past);
       bits = λ i. subst (λ xs. at xs i ≤ 1) (sym (C .flags-are)) (set-bit i (ℕ-discrete i (event - 1)));
-      readable = committed-readable (stateOf r) (ok .readable) (asking event opens closes) z (stateIn (r .ticket) flags′ opens′ closes′ (r .number + 1)) decided;
+      counts-long = five;
+      readable = committed-readable (stateOf r) (ok .readable) (asking event opens closes) z (stateOf (raised flags′ opens′ closes′ o)) decided;
     },
     decided,
   )
@@ -83,12 +100,26 @@ module _ (r : Record) (ok : Canonical r) (event opens closes : ℕ) where
       inside : event - 1 < r .ticket .events
       inside = omega (arith, passed .event, in-events (r .ticket))
 
-      decided : commit (stateOf r) (asking event opens closes) ≡ accepted (stateIn (r .ticket) flags′ opens′ closes′ (r .number + 1))
-      decided = C .answer (r .number) (passed .rises) ∙ ap (λ m. accepted (stateIn (r .ticket) flags′ opens′ closes′ m)) (sym (add-one (r .number)))
+      five : length (set (r .counts) o (at (r .counts) o + 1)) ≡ 5
+      five = length-set (r .counts) o (at (r .counts) o + 1) ∙ ok .counts-long
+
+      one-more : raise (stateOf r .counts) (ownerOf (content (r .ticket)) event) ≡ set (r .counts) o (at (r .counts) o + 1)
+      one-more = rw (counts-all (r .counts) (ok .counts-long), ← same, add-one) refl
+
+      decided : commit (stateOf r) (asking event opens closes) ≡ accepted (stateOf (raised flags′ opens′ closes′ o))
+      decided =
+          C .answer (stateOf r .counts) (passed .rises) ∙ ap (λ ns. accepted (stateIn (r .ticket) flags′ opens′ closes′ ns)) one-more
+          ∙ ap accepted (state-in (r .ticket) flags′ opens′ closes′ (set (r .counts) o (at (r .counts) o + 1)) five)
 
       set-bit : (i : ℕ) → Dec (i ≡ event - 1) → at (set (r .flags) (event - 1) 1) i ≤ 1
       set-bit i (yes q) = omega (arith, ap (at (set (r .flags) (event - 1) 1)) q, getD-set-same (r .flags) (event - 1) 1 0 (omega (arith, inside, canonical-few r ok, ok .flags-past .long)))
       set-bit i (no n) = omega (arith, getD-set-other (r .flags) (event - 1) i 1 0 n, ok .bits i)
+
+  -- the owner's count can rise
+  pub owner-counted : {o : ℕ} → cause (stateOf r) (asking event opens closes) ≡ 0 → o ≡ ownerOf (content (r .ticket)) event → (o < 5) × (at (r .counts) o ≤ 65535)
+  owner-counted {o} z same =
+      let known = states-hold.owner-known (content (r .ticket)) (ok .readable .valid) event (acceptable (stateOf r) (asking event opens closes) (rw z tt) .event) in
+      (omega (arith, same, known), omega (arith, same, count-of r ok o, ok .readable .counts-most o (omega (arith, same, known))))
 
 -- ---- planning
 
@@ -98,19 +129,23 @@ module _ {t : Struct} where
 
   module _ {late : Bool} {opens closes opens′ closes′ : List ℕ} {b : Bool} (P : PlannedFor late t opens closes opens′ closes′ b) where
     pub planned-none : b ≡ false → planFor late (content t) ≡ refused 9
-    planned-none q = P .answer ∙ ap (λ x. cond x (accepted (stateIn t (replicate 40 0) opens′ closes′ 0)) (refused 9)) q
+    planned-none q = P .answer ∙ ap (λ x. cond x (accepted (stateIn t (replicate 40 0) opens′ closes′ (replicate 5 0))) (refused 9)) q
 
-    pub planned-some : b ≡ true → planFor late (content t) ≡ accepted (stateIn t (replicate 40 0) opens′ closes′ 0)
-    planned-some q = P .answer ∙ ap (λ x. cond x (accepted (stateIn t (replicate 40 0) opens′ closes′ 0)) (refused 9)) q
+    pub planned-some : b ≡ true
+        → planFor late (content t) ≡ accepted (stateOf (record { ticket = t; flags = replicate 40 0; opens = opens′; closes = closes′; counts = replicate 5 0 }))
+    planned-some q =
+        P .answer ∙ ap (λ x. cond x (accepted (stateIn t (replicate 40 0) opens′ closes′ (replicate 5 0))) (refused 9)) q
+        ∙ ap accepted (state-in t (replicate 40 0) opens′ closes′ (replicate 5 0) refl)
 
     pub canonical-planned : Valid (content t) → opens ≡ replicate 40 0 → closes ≡ replicate 40 0 → b ≡ true
-        → Canonical (record { ticket = t; flags = replicate 40 0; opens = opens′; closes = closes′; number = 0 })
+        → Canonical (record { ticket = t; flags = replicate 40 0; opens = opens′; closes = closes′; counts = replicate 5 0 })
     canonical-planned v zo zc q = record {
       flags-past = zeros-past (t .events);
       opens-past = grown opens′ zo (P .opens-past);
       closes-past = grown closes′ zc (P .closes-past);
       bits = λ i. omega (arith, zeros-past 0 .zero-past i (omega arith));
-      readable = planned-readable late (content t) v (stateIn t (replicate 40 0) opens′ closes′ 0) (planned-some q);
+      counts-long = refl;
+      readable = planned-readable late (content t) v _ (planned-some q);
     }
       where
         grown : {xs : List ℕ} (ys : List ℕ) → xs ≡ replicate 40 0 → Within (t .events) xs ys → Past (t .events) ys

@@ -1,6 +1,7 @@
 // Planning and commitment on bytes: a ticket or a record is read, decided upon in the lent scratch, and the record is written into the lent output.
 // Each promise of `plan`, `plan_latest` and `commit` is an equation with the outcome that crate `runs` defines (specs/Calls) of all that the call is lent.
-// Rests on `causes` for what refuses a commitment and for clearing the scratch, on `reading`, `reading_records` and `writing_records` for the bytes, on `latest`, `windows` and `fitness` for the windows.
+// Rests on `causes` for what refuses a commitment and for clearing the scratch, on `reading`, `reading_records` and `writing_records` for the bytes, on `latest`, `windows` and
+// `fitness` for the windows.
 
 ghost use mathlib.Core.Path.{_≡_};
 ghost use Prim.Native.Nat.{_≤_};
@@ -37,7 +38,7 @@ fn refusal(number: u32) -> Answer
 
 // Write the record into the output.
 fn write_out(r: ticket::Record, out: &mut [u8]) -> Answer
-    requires { ⌜ Canonical r × (1948 ≤ length (now out)) ⌝ }
+    requires { ⌜ Canonical r × (1958 ≤ length (now out)) ⌝ }
     ensures { λ a. ⌜ a ≡ record {
       number = 0;
       length = length (writeState (stateOf r));
@@ -60,7 +61,7 @@ fn write_out(r: ticket::Record, out: &mut [u8]) -> Answer
 // Plan a ticket that was read: the latest plan where `latest` says so.
 fn plan_ticket(t: ticket::Ticket, latest: bool, out: &mut [u8], scratch: &mut [u32]) -> Answer
     requires { ⌜ Valid (content t) ⌝ }
-    requires { ⌜ (1948 ≤ length (now out)) × (1824 ≤ length (now scratch)) ⌝ }
+    requires { ⌜ (1958 ≤ length (now out)) × (1824 ≤ length (now scratch)) ⌝ }
     ensures { λ a. ⌜ Meets (answered (now (out .entry)) (now (scratch .entry)) (planFor latest (content t))) (now (scratch .entry)) a (now (out .exit)) (now (scratch .exit)) ⌝ }
 {
     let flags = [0u8; ticket::Ticket::EVENTS];
@@ -75,7 +76,7 @@ fn plan_ticket(t: ticket::Ticket, latest: bool, out: &mut [u8], scratch: &mut [u
         flags,
         opens,
         closes,
-        number: 0,
+        counts: [0u32; ticket::DEVICES],
     };
     write_out(r, out)
 }
@@ -83,7 +84,7 @@ fn plan_ticket(t: ticket::Ticket, latest: bool, out: &mut [u8], scratch: &mut [u
 // Plan the ticket that the bytes hold, where there is room: the latest plan where `latest` says so. Of the scratch the first 1,824 numbers are used, and not
 // cleared.
 pub fn plan_bytes(ticket: &[u8], latest: bool, out: &mut [u8], scratch: &mut [u32]) -> Answer
-    requires { ⌜ (1948 ≤ length (now out)) × (1824 ≤ length (now scratch)) ⌝ }
+    requires { ⌜ (1958 ≤ length (now out)) × (1824 ≤ length (now scratch)) ⌝ }
     ensures { λ a.
         ⌜ Meets (afterReading (now (out .entry)) (now (scratch .entry)) (planFor latest) (wholly readTicket (now (ticket .entry))))
         (now (scratch .entry)) a (now (out .exit)) (now (scratch .exit)) ⌝ }
@@ -151,12 +152,17 @@ fn commit_event(
         opens,
         closes,
     );
+    let n = t.events as u32;
+    let owners = t.owners;
+    let o = causes::owner_of(n, owners, event);
+    let mut counts = r.counts;
+    counts[o] += 1;
     ticket::Record {
         ticket: t,
         flags,
         opens: firsts,
         closes: lasts,
-        number: r.number + 1,
+        counts,
     }
 }
 
@@ -169,7 +175,7 @@ fn commit_record(
     out: &mut [u8],
     scratch: &mut [u32],
 ) -> Answer
-    requires { ⌜ Canonical r × (1948 ≤ length (now out)) × (1824 ≤ length (now scratch)) ⌝ }
+    requires { ⌜ Canonical r × (1958 ≤ length (now out)) × (1824 ≤ length (now scratch)) ⌝ }
     ensures { λ a.
         ⌜ Meets (answered (now (out .entry)) (now (scratch .entry)) (commit (stateOf r) (asking event opens closes)))
         (now (scratch .entry)) a (now (out .exit)) (now (scratch .exit)) ⌝ }
@@ -191,7 +197,7 @@ pub fn commit_bytes(
     out: &mut [u8],
     scratch: &mut [u32],
 ) -> Answer
-    requires { ⌜ (1948 ≤ length (now out)) × (1824 ≤ length (now scratch)) ⌝ }
+    requires { ⌜ (1958 ≤ length (now out)) × (1824 ≤ length (now scratch)) ⌝ }
     ensures { λ a.
         ⌜ Meets (afterReading (now (out .entry)) (now (scratch .entry)) (λ (s : State). commit s (asking event opens closes))
         (wholly readState (now («record» .entry)))) (now (scratch .entry)) a (now (out .exit)) (now (scratch .exit)) ⌝ }

@@ -10,10 +10,10 @@ ghost use Rattle.text.specs.Stores.{Puts};
 ghost use Rattle.planner.specs.Printed.{printed};
 
 // Output and scratch of planning; as a call's result neither is a list of literals in the proofs.
-fn blank() -> [u8; 1948]
-    ensures { λ r. ⌜ 1948 ≡ length r ⌝ }
+fn blank() -> [u8; 1958]
+    ensures { λ r. ⌜ 1958 ≡ length r ⌝ }
 {
-    [0u8; 1948]
+    [0u8; 1958]
 }
 
 fn scratch() -> [u32; 1824]

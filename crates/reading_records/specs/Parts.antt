@@ -4,12 +4,13 @@ use Prim.Native.Nat.{ℕ}
 use mathlib.Core.List.{List, [], map}
 use lib.ListN.{drop}
 use Rattle.ticket.specs.Parser.{Out, got, refused, number, many}
-use Rattle.temporal.specs.Run.{setFlags}
-use Rattle.ticket.specs.Format.{Entry, flagsIn, readWindow, Rest, readPlan, readState}
+use Rattle.ticket.specs.Format.{Entry, readWindow, readWindows, readCount, eachCount, readCounts, readState}
 use Rattle.ticket.specs.Writer.{flagByte}
 use Rattle.ticket.specs.Stored.{pad, planned}
 use Rattle.reading_records.specs.declared.ReadWindow.{ReadWindow}
 use Rattle.reading_records.specs.declared.ReadWindows.{ReadWindows}
+use Rattle.reading_records.specs.declared.ReadCount.{ReadCount}
+use Rattle.reading_records.specs.declared.ReadCounts.{ReadCounts}
 use Rattle.ticket.specs.declared.ReadRecord.{ReadRecord}
 
 -- ---- windows
@@ -32,7 +33,6 @@ windowsOf k es =
       flags = pad 0 40 (map (λ (e : Entry). flagByte (e .committed)) es);
       opens = pad 0 40 (map (λ (e : Entry). e .window .opens) es);
       closes = pad 0 40 (map (λ (e : Entry). e .window .closes) es);
-      count = setFlags (flagsIn es);
     }
 
 abbrev pub allWindowed : Out (List Entry) → ReadWindows
@@ -43,23 +43,37 @@ allWindowed (refused k) = windowsOf (number k) []
 abbrev pub windowsAt : List ℕ → ℕ → ℕ → ℕ → ReadWindows
 windowsAt s at n h = allWindowed (many (readWindow h) n (drop at s))
 
--- What comes after a ticket with n events and the horizon h, from the place `at`: windows, with the last number as their count.
-abbrev pub planOf : Rest → ReadWindows
-planOf r =
-    record {
-      number = 0;
-      flags = windowsOf 0 (r .entries) .flags;
-      opens = windowsOf 0 (r .entries) .opens;
-      closes = windowsOf 0 (r .entries) .closes;
-      count = r .number;
-    }
+-- The section of windows of n events at the place `at`, with the horizon h.
+abbrev pub windowSection : List ℕ → ℕ → ℕ → ℕ → ReadWindows
+windowSection s at n h = allWindowed (readWindows n h (drop at s))
 
-abbrev pub numbered : Out Rest → ReadWindows
-numbered (got r s) = planOf r
-numbered (refused k) = windowsOf (number k) []
+-- ---- counts
 
-abbrev pub planAt : List ℕ → ℕ → ℕ → ℕ → ReadWindows
-planAt s at n h = numbered (readPlan n h (drop at s))
+abbrev pub noCount : ℕ → ReadCount
+noCount k = record { number = k; count = 0 }
+
+abbrev pub counted : Out ℕ → ReadCount
+counted (got k s) = record { number = 0; count = k }
+counted (refused k) = noCount (number k)
+
+-- The count at the place `at`, of a device with x flags set.
+abbrev pub countAt : List ℕ → ℕ → ℕ → ReadCount
+countAt s at x = counted (readCount x (drop at s))
+
+abbrev pub countsOf : ℕ → List ℕ → ReadCounts
+countsOf k ks = record { number = k; counts = pad 0 5 ks }
+
+abbrev pub allCounted : Out (List ℕ) → ReadCounts
+allCounted (got ks s) = countsOf 0 ks
+allCounted (refused k) = countsOf (number k) []
+
+-- A count for each x of a list, from the place `at`.
+abbrev pub countsAt : List ℕ → ℕ → List ℕ → ReadCounts
+countsAt s at xs = allCounted (eachCount xs (drop at s))
+
+-- The section of counts at the place `at`, of devices with xs flags set.
+abbrev pub countSection : List ℕ → ℕ → List ℕ → ReadCounts
+countSection s at xs = allCounted (readCounts xs (drop at s))
 
 -- ---- the record
 

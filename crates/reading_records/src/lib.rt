@@ -5,19 +5,29 @@ ghost use Prim.Native.Nat.{_+_, _*_, _≤_, _<_};
 ghost use lib.ListN.{length, drop};
 ghost use mathlib.Core.List.{[]};
 ghost use Rattle.ticket.specs.Format.{readSame};
-ghost use Rattle.reading_records.specs.Parts.{noWindow, windowAt, windowsOf, windowsAt, planAt, firstRecord};
+ghost use Rattle.reading_records.specs.Parts.{noWindow, windowAt, windowsOf, windowsAt, windowSection, noCount, countAt, countsOf, countsAt, countSection, firstRecord};
 ghost use Rattle.ticket.specs.Stored.{noRecord, wholeRecord};
 ghost use Rattle.ticket.specs.Writing.{verdict};
+use ticket::DEVICES;
 use ticket::ReadRecord;
 use ticket::Record;
 use ticket::Ticket;
 
-// A byte as a wider number.
-fn wide32(x: u8) -> u32
-    ensures { λ r. ⌜ (r ≡ x) × (r < 256) ⌝ }
+// The cause that the two bytes at `at` are not the number x, or 0.
+fn other_at(s: &[u8], at: usize, x: usize) -> u32
+    requires { ⌜ at ≤ length (now s) ⌝ }
+    ensures { λ r. ⌜ r ≡ verdict (readSame x (drop at (now (s .entry)))) ⌝ }
 {
-    x as u32
+    if s.len() - at < 2 {
+        return 1;
+    }
+    if reading::u16_at(s, at) != x {
+        return 14;
+    }
+    0
 }
+
+// ---- windows
 
 struct ReadWindow {
     number: u32,
@@ -65,7 +75,6 @@ struct ReadWindows {
     flags: [u8; Ticket::EVENTS],
     opens: [u32; Ticket::EVENTS],
     closes: [u32; Ticket::EVENTS],
-    count: u32,
 }
 
 fn refused_windows(number: u32) -> ReadWindows
@@ -76,11 +85,10 @@ fn refused_windows(number: u32) -> ReadWindows
         flags: [0u8; Ticket::EVENTS],
         opens: [0u32; Ticket::EVENTS],
         closes: [0u32; Ticket::EVENTS],
-        count: 0,
     }
 }
 
-// n windows for the horizon h; count is the number of set flags.
+// n windows for the horizon h.
 fn windows_at(s: &[u8], at: usize, n: usize, h: u32) -> ReadWindows
     requires { ⌜ (at ≤ length (now s)) × (n ≤ 40) ⌝ }
     ensures { λ r. ⌜ r ≡ windowsAt (now (s .entry)) at n h ⌝ }
@@ -88,7 +96,6 @@ fn windows_at(s: &[u8], at: usize, n: usize, h: u32) -> ReadWindows
     let mut flags = [0u8; Ticket::EVENTS];
     let mut opens = [0u32; Ticket::EVENTS];
     let mut closes = [0u32; Ticket::EVENTS];
-    let mut count = 0;
     let mut i = 0;
     while i < n {
         let w = window_at(s, at + 9 * i, h);
@@ -96,11 +103,9 @@ fn windows_at(s: &[u8], at: usize, n: usize, h: u32) -> ReadWindows
         if number != 0 {
             return refused_windows(number);
         }
-        let flag = w.flag;
-        flags[i] = flag;
+        flags[i] = w.flag;
         opens[i] = w.opens;
         closes[i] = w.closes;
-        count += wide32(flag);
         i += 1;
     }
     ReadWindows {
@@ -108,9 +113,96 @@ fn windows_at(s: &[u8], at: usize, n: usize, h: u32) -> ReadWindows
         flags,
         opens,
         closes,
-        count,
     }
 }
+
+// The section of windows at `at`: the number of events, which is n, and their windows.
+fn window_section(s: &[u8], at: usize, n: usize, h: u32) -> ReadWindows
+    requires { ⌜ (at ≤ length (now s)) × (n ≤ 40) ⌝ }
+    ensures { λ r. ⌜ r ≡ windowSection (now (s .entry)) at n h ⌝ }
+{
+    let k = other_at(s, at, n);
+    if k != 0 {
+        return refused_windows(k);
+    }
+    windows_at(s, at + 2, n, h)
+}
+
+// ---- counts
+
+struct ReadCount {
+    number: u32,
+    count: u32,
+}
+
+fn refused_count(number: u32) -> ReadCount
+    ensures { λ r. ⌜ r ≡ noCount number ⌝ }
+{
+    ReadCount { number, count: 0 }
+}
+
+// The count at `at` of a device with x flags set.
+fn count_at(s: &[u8], at: usize, x: u32) -> ReadCount
+    requires { ⌜ at ≤ length (now s) ⌝ }
+    ensures { λ r. ⌜ r ≡ countAt (now (s .entry)) at x ⌝ }
+{
+    if s.len() - at < 2 {
+        return refused_count(1);
+    }
+    let count = reading::u16_at(s, at) as u32;
+    let k = ticket::count_cause(x, count);
+    if k != 0 {
+        return refused_count(k);
+    }
+    ReadCount { number: 0, count }
+}
+
+struct ReadCounts {
+    number: u32,
+    counts: [u32; DEVICES],
+}
+
+fn refused_counts(number: u32) -> ReadCounts
+    ensures { λ r. ⌜ r ≡ countsOf number [] ⌝ }
+{
+    ReadCounts {
+        number,
+        counts: [0u32; DEVICES],
+    }
+}
+
+// The counts of devices with xs flags set.
+fn counts_at(s: &[u8], at: usize, xs: [u32; DEVICES]) -> ReadCounts
+    requires { ⌜ at ≤ length (now s) ⌝ }
+    ensures { λ r. ⌜ r ≡ countsAt (now (s .entry)) at xs ⌝ }
+{
+    let mut counts = [0u32; DEVICES];
+    let mut o = 0;
+    while o < DEVICES {
+        let c = count_at(s, at + 2 * o, xs[o]);
+        let number = c.number;
+        if number != 0 {
+            return refused_counts(number);
+        }
+        counts[o] = c.count;
+        o += 1;
+    }
+    ReadCounts { number: 0, counts }
+}
+
+// The section of counts at `at`: the number of devices, which is 5, and their counts.
+fn count_section(s: &[u8], at: usize, xs: [u32; DEVICES]) -> ReadCounts
+    requires { ⌜ at ≤ length (now s) ⌝ }
+    ensures { λ r. ⌜ r ≡ countSection (now (s .entry)) at xs ⌝ }
+{
+    let k = other_at(s, at, DEVICES);
+    if k != 0 {
+        return refused_counts(k);
+    }
+    counts_at(s, at + 2, xs)
+}
+
+// ---- the record
 
 fn refused_record(number: u32) -> ReadRecord
     ensures { λ r. ⌜ r ≡ noRecord number ⌝ }
@@ -121,7 +213,7 @@ fn refused_record(number: u32) -> ReadRecord
         flags: [0u8; Ticket::EVENTS],
         opens: [0u32; Ticket::EVENTS],
         closes: [0u32; Ticket::EVENTS],
-        number: 0,
+        counts: [0u32; DEVICES],
     };
     ReadRecord {
         number,
@@ -130,55 +222,7 @@ fn refused_record(number: u32) -> ReadRecord
     }
 }
 
-// The cause that the two bytes at `at` are not the number x, or 0.
-fn other_at(s: &[u8], at: usize, x: usize) -> u32
-    requires { ⌜ at ≤ length (now s) ⌝ }
-    ensures { λ r. ⌜ r ≡ verdict (readSame x (drop at (now (s .entry)))) ⌝ }
-{
-    if s.len() - at < 2 {
-        return 1;
-    }
-    if reading::u16_at(s, at) != x {
-        return 14;
-    }
-    0
-}
-
-// What a record has after its ticket, at `at`: the number of events, which is n, their windows, and the number of accepted commitments, which is no less
-// than the number of set flags and becomes the count.
-fn plan_at(s: &[u8], at: usize, n: usize, h: u32) -> ReadWindows
-    requires { ⌜ (at ≤ length (now s)) × (n ≤ 40) ⌝ }
-    ensures { λ r. ⌜ r ≡ planAt (now (s .entry)) at n h ⌝ }
-{
-    let k = other_at(s, at, n);
-    if k != 0 {
-        return refused_windows(k);
-    }
-    let w = windows_at(s, at + 2, n, h);
-    if w.number != 0 {
-        return w;
-    }
-    let last = at + 2 + 9 * n;
-    if s.len() - last < 2 {
-        return refused_windows(1);
-    }
-    let count = reading::u16_at(s, last) as u32;
-    if count < w.count {
-        return refused_windows(14);
-    }
-    let flags = w.flags;
-    let opens = w.opens;
-    let closes = w.closes;
-    ReadWindows {
-        number: 0,
-        flags,
-        opens,
-        closes,
-        count,
-    }
-}
-
-// The record at the start of s: a ticket, read through a reader, and what goes on where the ticket ends; next is past it.
+// The record at the start of s: a ticket, read through a reader, and the two sections that go on where the ticket ends; next is past it.
 fn first_record(s: &[u8]) -> ReadRecord
     ensures { λ r. ⌜ r ≡ firstRecord (now (s .entry)) ⌝ }
 {
@@ -189,25 +233,33 @@ fn first_record(s: &[u8]) -> ReadRecord
     }
     let ticket = r.ticket;
     let n = ticket.events;
-    let w = plan_at(s, r.next, n, ticket.horizon);
+    let w = window_section(s, r.next, n, ticket.horizon);
     let l = w.number;
     if l != 0 {
         return refused_record(l);
     }
+    let owners = ticket.owners;
     let flags = w.flags;
+    let xs = ticket::flag_counts(owners, flags, n);
+    let c = count_section(s, r.next + 2 + 9 * n, xs);
+    let m = c.number;
+    if m != 0 {
+        return refused_record(m);
+    }
     let opens = w.opens;
     let closes = w.closes;
+    let counts = c.counts;
     let plan = Record {
         ticket,
         flags,
         opens,
         closes,
-        number: w.count,
+        counts,
     };
     ReadRecord {
         number: 0,
         plan,
-        next: r.next + 4 + 9 * n,
+        next: r.next + 14 + 9 * n,
     }
 }
 

@@ -8,13 +8,11 @@ ghost use Rattle.temporal.specs.Run.{Valid};
 ghost use Rattle.ticket.specs.Writing.{content};
 ghost use Rattle.reasons.specs.Reasoning.{explaining, reasoning};
 ghost use Rattle.reason.specs.Returned.{returned};
+use ticket::DEVICES;
 use ticket::Ticket;
 
 // An output holds the longest text.
 pub const TEXT_BYTES: usize = 2_200;
-
-// The names of the roster.
-const DEVICES: usize = 5;
 
 // The number of the refusal, 0 when the ring is printed; the length of its text, 0 when refused.
 pub struct Answer {

@@ -1,5 +1,6 @@
 -- The examples P1 to P10 of 01, and P1's latest plan (02, change 1), as one table: a call, and what it answers and leaves, whatever output and scratch of
--- sufficient length it is lent. A second table has P1's event 1 narrowed again (02, change 4).
+-- sufficient length it is lent. A second table has P1's event 1 narrowed again (02, change 4), a third
+-- the counts of its two devices (02, change 5).
 -- What is decided of the tickets and records is `temporal`'s Examples; here the bytes are read and written.
 use mathlib.Core.Path.{_≡_, refl, ap, _∙_}
 use mathlib.Core.Bool.{true}
@@ -8,15 +9,15 @@ use Prim.Native.Nat.{ℕ, _-_, _≤_}
 use native.Mathlib.Omega.{arith}
 use lib.IntN.{ℤ, pos, negsuc}
 use lib.ListN.{length, drop}
-use Rattle.temporal.specs.Lists.{All}
+use Rattle.temporal.specs.Lists.{All, tab}
 use Rattle.temporal.specs.Ticket.{Rule, Ticket, weights, weight, total}
 use Rattle.temporal.specs.Plan.{State, accepted, refused, plan, planLatest, commit, asking}
 use Rattle.temporal.specs.Table.{tableOf}
 use Rattle.temporal.specs.Examples.{minus as negative, ticket1, plan1, record3, ticket4, plan4, ticket6, ticket7, ticket8, ticket10}
-use Rattle.temporal.specs.Examples.{narrow1, tick1, narrowed, narrowed-again, narrowed-same, narrowed-stays, narrowed-full}
+use Rattle.temporal.specs.Examples.{narrow1, tick1, narrowed, narrowed-again, narrowed-same, narrowed-stays, narrowed-full, counted-own}
 use Rattle.temporal.specs.Examples.{p1, p1-latest, p1-table, p2, p3, p4, p5, p6, p6-refused, p7, p7-refused, p8, p10}
 use Rattle.ticket.specs.Parser.{got, number, little, many, wholly}
-use Rattle.ticket.specs.Format.{readTicket, readOwner, readRule, readState, readWindow}
+use Rattle.ticket.specs.Format.{readTicket, readOwner, readRule, readState, readWindows, readWindow, readSame, readCounts, eachCount, readCount}
 use Rattle.ticket.specs.Writer.{bytes, each, entries, writeRule, writeTicket, writeWindow, writeState}
 use Rattle.ticket.specs.Writing.{over}
 use Rattle.runs.specs.Calls.{Outcome, room, cleared, refusing, answered, afterReading}
@@ -86,23 +87,30 @@ minus i j c = i ∷ j ∷ (256 - c) ∷ 255 ∷ 255 ∷ 255 ∷ []
 abbrev pub window : ℕ → ℕ → ℕ → List ℕ
 window flag opens closes = flag ∷ (four opens ++ four closes)
 
+-- the section of counts: how many, and the counts in owner order
+abbrev pub five : ℕ → ℕ → ℕ → ℕ → ℕ → List ℕ
+five camera wheel lamps stage database = two 5 ++ (two camera ++ (two wheel ++ (two lamps ++ (two stage ++ two database))))
+
+abbrev pub none : List ℕ
+none = five 0 0 0 0 0
+
 abbrev pub bytes1 : List ℕ
 bytes1 =
     four 20 ++ (two 2 ++ (0 ∷ 2 ∷ (two 6
     ++ (rule 0 1 15 ++ (minus 1 0 5 ++ (rule 0 2 20 ++ (minus 2 0 8 ++ (rule 1 2 4 ++ rule 2 1 2))))))))
 
 abbrev pub record1 : List ℕ
-record1 = bytes1 ++ (two 2 ++ (window 0 5 10 ++ (window 0 8 9 ++ two 0)))
+record1 = bytes1 ++ (two 2 ++ (window 0 5 10 ++ (window 0 8 9 ++ none)))
 
 -- P1's latest plan, which P3 commits on
 abbrev pub latest1 : List ℕ
-latest1 = bytes1 ++ (two 2 ++ (window 0 15 15 ++ (window 0 13 19 ++ two 0)))
+latest1 = bytes1 ++ (two 2 ++ (window 0 15 15 ++ (window 0 13 19 ++ none)))
 
 abbrev pub bytes4 : List ℕ
 bytes4 = four 5 ++ (two 3 ++ (3 ∷ 3 ∷ 3 ∷ (two 2 ++ (rule 1 2 0 ++ rule 2 3 0))))
 
 abbrev pub record4 : List ℕ
-record4 = bytes4 ++ (two 3 ++ (window 0 0 5 ++ (window 0 0 0 ++ (window 0 0 0 ++ two 0))))
+record4 = bytes4 ++ (two 3 ++ (window 0 0 5 ++ (window 0 0 0 ++ (window 0 0 0 ++ none))))
 
 abbrev pub bytes6 : ℕ → List ℕ
 bytes6 c = four 10 ++ (two 2 ++ (3 ∷ 3 ∷ (two 2 ++ (minus 1 2 1 ++ rule 2 1 c))))
@@ -124,39 +132,64 @@ examples =
     ((pos 0 ∷ pos 15 ∷ pos 19 ∷ []) ++ ((negative 5 ∷ pos 0 ∷ pos 4 ∷ []) ++ (negative 8 ∷ pos 2 ∷ pos 0 ∷ [])))
     ∷ example 1 (plans bytes1) (writes record1 6)
     ∷ example 1 (plansLatest bytes1) (writes latest1 6)
-    ∷ example 2 (commits record1 1 10 10) (writes (bytes1 ++ (two 2 ++ (window 1 10 10 ++ (window 0 8 14 ++ two 1)))) 6)
-    ∷ example 3 (commits latest1 2 13 13) (writes (bytes1 ++ (two 2 ++ (window 0 9 15 ++ (window 1 13 13 ++ two 1)))) 6)
+    ∷ example 2 (commits record1 1 10 10) (writes (bytes1 ++ (two 2 ++ (window 1 10 10 ++ (window 0 8 14 ++ five 1 0 0 0 0)))) 6)
+    ∷ example 3 (commits latest1 2 13 13) (writes (bytes1 ++ (two 2 ++ (window 0 9 15 ++ (window 1 13 13 ++ five 0 0 1 0 0)))) 6)
     ∷ example 4 (plans bytes4) (writes record4 5)
-    ∷ example 5 (commits record4 1 2 2) (writes (bytes4 ++ (two 3 ++ (window 1 2 2 ++ (window 0 0 2 ++ (window 0 0 0 ++ two 1))))) 2)
-    ∷ example 6 (plans (bytes6 1)) (writes (bytes6 1 ++ (two 2 ++ (window 0 1 1 ++ (window 0 0 0 ++ two 0)))) 0)
+    ∷ example 5 (commits record4 1 2 2) (writes (bytes4 ++ (two 3 ++ (window 1 2 2 ++ (window 0 0 2 ++ (window 0 0 0 ++ five 0 0 0 1 0))))) 2)
+    ∷ example 6 (plans (bytes6 1)) (writes (bytes6 1 ++ (two 2 ++ (window 0 1 1 ++ (window 0 0 0 ++ none)))) 0)
     ∷ example 6 (plans (bytes6 0)) (refuses 9)
-    ∷ example 7 (plans (bytes7 10)) (writes (bytes7 10 ++ (two 1 ++ (window 0 10 10 ++ two 0))) 0)
+    ∷ example 7 (plans (bytes7 10)) (writes (bytes7 10 ++ (two 1 ++ (window 0 10 10 ++ none))) 0)
     ∷ example 7 (plans (bytes7 11)) (refuses 9)
-    ∷ example 8 (plans bytes8) (writes (bytes8 ++ (two 0 ++ two 0)) 0)
+    ∷ example 8 (plans bytes8) (writes (bytes8 ++ (two 0 ++ none)) 0)
     ∷ example 9 (plans []) (refuses 1)
-    ∷ example 10 (plans bytes10) (writes (bytes10 ++ (two 2 ++ (window 0 0 5 ++ (window 0 0 5 ++ two 0)))) 10)
+    ∷ example 10 (plans bytes10) (writes (bytes10 ++ (two 2 ++ (window 0 0 5 ++ (window 0 0 5 ++ none)))) 10)
     ∷ []
 
 -- ---- narrowing again (02, change 4): P1's plan, then event 1 committed to 6..10, to 10..10, and on
 
 -- event 1 committed to 6..10
 abbrev pub narrowed1 : List ℕ
-narrowed1 = bytes1 ++ (two 2 ++ (window 1 6 10 ++ (window 0 8 10 ++ two 1)))
+narrowed1 = bytes1 ++ (two 2 ++ (window 1 6 10 ++ (window 0 8 10 ++ five 1 0 0 0 0)))
 
--- event 1 committed to the tick 10, with this last number
-abbrev pub ticked1 : List ℕ → List ℕ
-ticked1 last = bytes1 ++ (two 2 ++ (window 1 10 10 ++ (window 0 8 14 ++ last)))
+-- event 1 committed to the tick 10, with these bytes after the windows; and with these counts of camera and lamps
+abbrev pub ended1 : List ℕ → List ℕ
+ended1 end = bytes1 ++ (two 2 ++ (window 1 10 10 ++ (window 0 8 14 ++ end)))
+
+abbrev pub ticked1 : List ℕ → List ℕ → List ℕ
+ticked1 camera lamps = ended1 (two 5 ++ (camera ++ (two 0 ++ (lamps ++ (two 0 ++ two 0)))))
+
+-- the greatest count, and the one below
+abbrev most : List ℕ
+most = 255 ∷ 255 ∷ []
+
+abbrev below-most : List ℕ
+below-most = 254 ∷ 255 ∷ []
 
 abbrev pub narrowings : List Example
 narrowings =
     example 1 (commits record1 1 6 10) (writes narrowed1 6)
-    ∷ example 1 (commits narrowed1 1 10 10) (writes (ticked1 (two 2)) 6)
-    ∷ example 1 (commits (ticked1 (two 2)) 1 10 10) (writes (ticked1 (two 3)) 6)
-    ∷ example 1 (commits (ticked1 (two 2)) 1 6 10) (refuses 13)
-    ∷ example 1 (commits (ticked1 (two 0)) 1 10 10) (refuses 14)
-    ∷ example 1 (commits (ticked1 (254 ∷ 255 ∷ [])) 1 10 10) (writes (ticked1 (255 ∷ 255 ∷ [])) 6)
-    ∷ example 1 (commits (ticked1 (255 ∷ 255 ∷ [])) 1 10 10) (refuses 18)
-    ∷ example 1 (commits (ticked1 (255 ∷ 255 ∷ [])) 1 6 10) (refuses 13)
+    ∷ example 1 (commits narrowed1 1 10 10) (writes (ticked1 (two 2) (two 0)) 6)
+    ∷ example 1 (commits (ticked1 (two 2) (two 0)) 1 10 10) (writes (ticked1 (two 3) (two 0)) 6)
+    ∷ example 1 (commits (ticked1 (two 2) (two 0)) 1 6 10) (refuses 13)
+    ∷ example 1 (commits (ticked1 below-most (two 0)) 1 10 10) (writes (ticked1 most (two 0)) 6)
+    ∷ example 1 (commits (ticked1 most (two 0)) 1 10 10) (refuses 18)
+    ∷ example 1 (commits (ticked1 most (two 0)) 1 6 10) (refuses 13)
+    ∷ []
+
+-- ---- one count for each device (02, change 5): event 1 of the camera is committed, event 2 is the lamps'
+
+-- both events committed to a tick, with this count of the camera
+abbrev pub both1 : List ℕ → List ℕ
+both1 camera = bytes1 ++ (two 2 ++ (window 1 10 10 ++ (window 1 14 14 ++ (two 5 ++ (camera ++ (two 0 ++ (two 1 ++ (two 0 ++ two 0))))))))
+
+abbrev pub countings : List Example
+countings =
+    example 1 (commits (ticked1 (two 0) (two 1)) 2 14 14) (refuses 14)
+    ∷ example 1 (commits (ended1 (two 5 ++ two 0)) 2 14 14) (refuses 14)
+    ∷ example 1 (commits (ended1 (two 5 ++ two 1)) 2 14 14) (refuses 1)
+    ∷ example 1 (commits (ended1 (two 1)) 2 14 14) (refuses 14)
+    ∷ example 1 (commits (ended1 (two 5)) 2 14 14) (refuses 1)
+    ∷ example 1 (commits (ticked1 most (two 0)) 2 14 14) (writes (both1 most) 0)
     ∷ []
 
 -- ---- a row, from what is read, decided and written
@@ -208,15 +241,15 @@ unfolding readTicket readOwner readRule little many
 read4 = refl
 
 read-record1 : wholly readState record1 ≡ got plan1 []
-unfolding readState readWindow readTicket readOwner readRule little many
+unfolding readState readWindows readWindow readSame readCounts eachCount readCount tab readTicket readOwner readRule little many
 read-record1 = refl
 
 read-latest1 : wholly readState latest1 ≡ got record3 []
-unfolding readState readWindow readTicket readOwner readRule little many
+unfolding readState readWindows readWindow readSame readCounts eachCount readCount tab readTicket readOwner readRule little many
 read-latest1 = refl
 
 read-record4 : wholly readState record4 ≡ got plan4 []
-unfolding readState readWindow readTicket readOwner readRule little many
+unfolding readState readWindows readWindow readSame readCounts eachCount readCount tab readTicket readOwner readRule little many
 read-record4 = refl
 
 infixr 2 _and_
@@ -243,18 +276,28 @@ examples-hold =
     and tt
 
 read-narrowed1 : wholly readState narrowed1 ≡ got narrow1 []
-unfolding readState readWindow readTicket readOwner readRule little many
+unfolding readState readWindows readWindow readSame readCounts eachCount readCount tab readTicket readOwner readRule little many
 read-narrowed1 = refl
 
 pub narrowings-hold : All Holds narrowings
-unfolding readState readWindow readTicket readOwner readRule little many number writeState writeTicket writeRule writeWindow entries bytes each weight weights
+unfolding readState readWindows readWindow readSame readCounts eachCount readCount tab readTicket readOwner readRule little many number writeState writeTicket writeRule writeWindow entries bytes each weight weights
 narrowings-hold =
     (λ out scratch e. commits-writes record1 read-record1 1 6 10 out scratch e _ 6 narrowed refl refl)
     and (λ out scratch e. commits-writes narrowed1 read-narrowed1 1 10 10 out scratch e _ 6 narrowed-again refl refl)
-    and (λ out scratch e. commits-writes (ticked1 (two 2)) {s = tick1 2} refl 1 10 10 out scratch e _ 6 (narrowed-same 2 (λ q. omega arith)) refl refl)
-    and (λ out scratch e. commits-refused (ticked1 (two 2)) {s = tick1 2} refl 1 6 10 out scratch e (narrowed-stays 2))
-    and (λ out scratch e. committing-read (ticked1 (two 0)) 1 10 10 out scratch e)
-    and (λ out scratch e. commits-writes (ticked1 (254 ∷ 255 ∷ [])) {s = tick1 65534} refl 1 10 10 out scratch e _ 6 (narrowed-same 65534 (λ q. omega arith)) refl refl)
-    and (λ out scratch e. commits-refused (ticked1 (255 ∷ 255 ∷ [])) {s = tick1 65535} refl 1 10 10 out scratch e narrowed-full)
-    and (λ out scratch e. commits-refused (ticked1 (255 ∷ 255 ∷ [])) {s = tick1 65535} refl 1 6 10 out scratch e (narrowed-stays 65535))
+    and (λ out scratch e. commits-writes (ticked1 (two 2) (two 0)) {s = tick1 2} refl 1 10 10 out scratch e _ 6 (narrowed-same 2 (λ q. omega arith)) refl refl)
+    and (λ out scratch e. commits-refused (ticked1 (two 2) (two 0)) {s = tick1 2} refl 1 6 10 out scratch e (narrowed-stays 2))
+    and (λ out scratch e. commits-writes (ticked1 below-most (two 0)) {s = tick1 65534} refl 1 10 10 out scratch e _ 6 (narrowed-same 65534 (λ q. omega arith)) refl refl)
+    and (λ out scratch e. commits-refused (ticked1 most (two 0)) {s = tick1 65535} refl 1 10 10 out scratch e narrowed-full)
+    and (λ out scratch e. commits-refused (ticked1 most (two 0)) {s = tick1 65535} refl 1 6 10 out scratch e (narrowed-stays 65535))
+    and tt
+
+pub countings-hold : All Holds countings
+unfolding readState readWindows readWindow readSame readCounts eachCount readCount tab readTicket readOwner readRule little many number writeState writeTicket writeRule writeWindow entries bytes each weight weights
+countings-hold =
+    (λ out scratch e. committing-read (ticked1 (two 0) (two 1)) 2 14 14 out scratch e)
+    and (λ out scratch e. committing-read (ended1 (two 5 ++ two 0)) 2 14 14 out scratch e)
+    and (λ out scratch e. committing-read (ended1 (two 5 ++ two 1)) 2 14 14 out scratch e)
+    and (λ out scratch e. committing-read (ended1 (two 1)) 2 14 14 out scratch e)
+    and (λ out scratch e. committing-read (ended1 (two 5)) 2 14 14 out scratch e)
+    and (λ out scratch e. commits-writes (ticked1 most (two 0)) {s = tick1 65535} refl 2 14 14 out scratch e _ 0 counted-own refl refl)
     and tt

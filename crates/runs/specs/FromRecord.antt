@@ -6,7 +6,7 @@ use mathlib.Core.List.{List, [], _∷_}
 use mathlib.Core.Logic.{_⊎_, inl, inr}
 use Prim.Native.Nat.{ℕ}
 use native.Mathlib.Omega.{arith}
-use lib.ListN.{length, drop}
+use lib.ListN.{length, drop, replicate}
 use lib.Seq.{drop-append-seam}
 use Rattle.temporal.specs.Ticket.{Ticket, events, total}
 use Rattle.temporal.specs.Plan.{State, Answer, accepted, plan, committed, commit}
@@ -100,10 +100,10 @@ module _ (current : List ℕ) (bytes : Bytes current) (c : Call) where
 
 -- "With no events it is empty, total 0" (01, "Network, table, plan"), whatever the horizon
 pub plan-nothing : (k : Ticket) → Valid k → events k ≡ 0 → (out scratch : List ℕ) → room out scratch ≡ true
-    → (planning (writeTicket k) out scratch ≡ accepting (record { ticket = k; windows = []; flags = []; count = 0 }) out scratch)
+    → (planning (writeTicket k) out scratch ≡ accepting (record { ticket = k; windows = []; flags = []; counts = replicate 5 0 }) out scratch)
     × (planning (writeTicket k) out scratch .total ≡ 0)
 plan-nothing k v e out scratch r =
     let p = plan-empty k v e in
-    let q : planning (writeTicket k) out scratch ≡ accepting (record { ticket = k; windows = []; flags = []; count = 0 }) out scratch =
+    let q : planning (writeTicket k) out scratch ≡ accepting (record { ticket = k; windows = []; flags = []; counts = replicate 5 0 }) out scratch =
     reads (writeTicket k) out scratch r k (read-written k v) ∙ ap (calls.answered out scratch) (p .0) in
     (q, ap (λ (o : Outcome). o .total) q ∙ p .1)

@@ -8,7 +8,7 @@ use mathlib.Core.Logic.{_↔_, _⊎_, inl, inr, _≢_}
 use Prim.Native.Nat.{ℕ}
 use native.Mathlib.Omega.{arith}
 use lib.Dec.{T}
-use lib.ListN.{length, drop}
+use lib.ListN.{length, drop, replicate}
 use lib.Seq.{take-at}
 use Rattle.temporal.specs.Ticket.{Ticket, Schedule, Fit, total}
 use Rattle.temporal.specs.Best.{ChosenLatest}
@@ -35,13 +35,13 @@ use Rattle.runs.specs.FromRecord.{Tells, accepting-tells}
 
 -- ---- what is claimed
 
--- an accepted one: the ticket read is the ticket that the record holds; no flag is set and the number is 0; "among the widest fit sets, the one in which
+-- an accepted one: the ticket read is the ticket that the record holds; no flag is set and every count is 0; "among the widest fit sets, the one in which
 -- every open and close is the greatest that any has": the windows are fit, every other fit set has at most their total, and each equally wide has every
 -- open and close at the same tick or sooner; their total is returned
 pub record PlannedLatest (ticket : List ℕ) (o : Outcome) (s : State) : Type 0 where
   pub read : wholly readTicket ticket ≡ got (s .ticket) []
   pub free : (p : ℕ) → flagged (s .flags) p ≡ false
-  pub number : s .count ≡ 0
+  pub counts : s .counts ≡ replicate 5 0
   pub chosen : ChosenLatest (s .ticket) (Fit (s .ticket)) (s .windows)
   pub sum : o .total ≡ total (s .ticket) (s .windows)
 
@@ -185,7 +185,7 @@ latest-run ticket out scratch cs = λ bytes. (
         record {
           read = m .1 .read;
           free = p .free;
-          number = p .count;
+          counts = p .counts;
           chosen = p .chosen;
           sum = ap (λ (o : Outcome). o .total) (m .1 .outcome);
         },

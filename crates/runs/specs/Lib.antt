@@ -3,7 +3,7 @@
 --
 -- Believe two files, in this order, and the three statements at the head of Latest; everything else is proved of them.
 --   Calls     the calls as functions of all they are lent: what is returned, what output and scratch hold afterwards
---   Run       what 01's section "A run" claims, with 02's change 4, for any start and any list of commitments
+--   Run       what 01's section "A run" claims, with 02's changes 4 and 5, for any start and any list of commitments
 --   Latest    what 02's change 1 claims of the latest plan: `PlannedLatest`, `RunLatest`, `AsPlanning`
 -- The theorems:
 --   RunHolds    `run`, of every start and every list. It answers demand 3.
@@ -13,7 +13,7 @@
 --   Latest      `latest-run`, of every latest plan and every list on its record; it returns and refuses as planning does (`latest-as-planning`,
 --               `latest-refusal`); length and total follow from its record (`latest-tells`). It answers 02's change 1.
 -- Examples shows the definitions at work: P1 to P10 of 01 as one table, the table of distances and P1's latest plan in it (`examples-hold`); P1's event 1
--- narrowed again as another (`narrowings-hold`).
+-- narrowed again as another (`narrowings-hold`), the counts of its two devices as a third (`countings-hold`).
 --
 -- That the code is these functions is said by its contracts, in crate `plan`.
 pub mod Calls

@@ -1,5 +1,5 @@
--- What is claimed of a run at the level of bytes: 01's section "A run", with change 4 of 02, for any start and any list of commitments, in one
--- statement; a list may name an event again, and the last window named counts.
+-- What is claimed of a run at the level of bytes: 01's section "A run", with changes 4 and 5 of 02, for any start and any list of commitments, in
+-- one statement; a list may name an event again, and the last window named counts.
 -- What a record's bytes hold is said by `ticket`'s reading; `temporal` says what a place, an allowed set and the chosen set are.
 use mathlib.Core.Path.{_≡_}
 use mathlib.Core.Bool.{false}
@@ -7,7 +7,7 @@ use mathlib.Core.List.{List, [], _∷_}
 use mathlib.Core.Logic.{_≢_}
 use Prim.Native.Nat.{ℕ}
 use lib.Dec.{T}
-use lib.ListN.{take}
+use lib.ListN.{take, replicate}
 use Rattle.temporal.specs.Ticket.{Ticket, Schedule, Fit, total}
 use Rattle.temporal.specs.Best.{Chosen}
 use Rattle.temporal.specs.Plan.{State, Commitment, flagged}
@@ -45,8 +45,8 @@ written o = take (o .length) (o .out)
 abbrev pub Holds : List ℕ → State → Type 0
 Holds bytes s = wholly readState bytes ≡ got s []
 
--- the current record is readable; the state that it holds has the start's ticket, the flags of the committed events and no others, the
--- start's number plus the accepted commitments, and fit windows with the committed ones as said
+-- the current record is readable; the state that it holds has the start's ticket, the flags of the committed events and no others, each
+-- count the start's plus that device's acceptances, and fit windows with the committed ones as said
 pub record Current (start : State) (done : List Commitment) (current : List ℕ) (now : State) : Type 0 where
   pub holds : Holds current now
   pub place : Place start done now
@@ -77,12 +77,12 @@ Claim start done current now (c ∷ cs) =
 
 -- ---- the starts
 
--- an accepted planning: the ticket read is the ticket that the record holds; no flag is set and the number is 0; the windows are fit, every
+-- an accepted planning: the ticket read is the ticket that the record holds; no flag is set and every count is 0; the windows are fit, every
 -- other fit set has at most their total, and each equally wide has every open and close at the same tick or later; their total is returned
 pub record Planned (ticket : List ℕ) (o : Outcome) (s : State) : Type 0 where
   pub read : wholly readTicket ticket ≡ got (s .ticket) []
   pub free : (p : ℕ) → flagged (s .flags) p ≡ false
-  pub number : s .count ≡ 0
+  pub counts : s .counts ≡ replicate 5 0
   pub chosen : Chosen (s .ticket) (Fit (s .ticket)) (s .windows)
   pub sum : o .total ≡ total (s .ticket) (s .windows)
 

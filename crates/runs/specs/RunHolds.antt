@@ -6,7 +6,7 @@ use mathlib.Core.Logic.{_≢_}
 use Prim.Native.Nat.{ℕ}
 use native.Mathlib.Omega.{arith}
 use lib.Dec.{T}
-use lib.ListN.{length, drop}
+use lib.ListN.{length, drop, replicate}
 use lib.Seq.{take-at}
 use Rattle.temporal.specs.Ticket.{Ticket, Schedule, Fit}
 use Rattle.temporal.specs.Best.{Chosen}
@@ -157,7 +157,7 @@ module _ (ticket out scratch : List ℕ) where
 
       by : (a : Answer) → Answered a
           (λ r. (r ≡ 9) × ((ts : List ℕ) → ¬ Schedule k ts))
-          (λ s. (s .ticket ≡ k) × ((p : ℕ) → flagged (s .flags) p ≡ false) × (s .count ≡ 0) × Chosen k (Fit k) (s .windows) × states.Claim s [] s (map asks cs))
+          (λ s. (s .ticket ≡ k) × ((p : ℕ) → flagged (s .flags) p ≡ false) × (s .counts ≡ replicate 5 0) × Chosen k (Fit k) (s .windows) × states.Claim s [] s (map asks cs))
           → (answered out scratch a .number ≢ 0 → Unplanned ticket out scratch (answered out scratch a .number))
           × (answered out scratch a .number ≡ 0 → (s : State) × Planned ticket (answered out scratch a) s × Claim s [] (written (answered out scratch a)) s cs)
       by (Answer.refused r) g = (
@@ -171,7 +171,7 @@ module _ (ticket out scratch : List ℕ) where
           record {
             read = read ∙ ap (λ (k′ : Ticket). got k′ []) (sym (g .0));
             free = g .1;
-            number = g .2;
+            counts = g .2;
             chosen = subst (λ (k′ : Ticket). Chosen k′ (Fit k′) (s .windows)) (sym (g .0)) (g .3);
             sum = refl;
           },

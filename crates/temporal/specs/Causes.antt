@@ -1,16 +1,18 @@
 -- The number under which a commitment is refused is that of the first cause that applies, and no commitment is refused without one (`cause-iff`).
 use mathlib.Core.Path.{_≡_, refl, sym, subst, _∙_}
 use mathlib.Core.Bool.{Bool, true, false, not, cond, _||_}
+use mathlib.Core.List.{List}
 use mathlib.Core.Logic.{_↔_, _⊎_, inl, inr, _≢_}
 use Prim.Native.Nat.{ℕ}
 use native.Mathlib.Omega.{arith}
 use borrow.Author.Tests.{eq-eqb, ne-eqb}
 use lib.Dec.{T, not-T, T-not, eqb, ltb, nltb→le, eqb→eq}
 use lib.Arith.{le→nltb}
+use lib.ListN.{getD}
 use Rattle.temporal.specs.Lists.{T-true, T-false}
 use Rattle.temporal.specs.Ticket.{Ticket, events, Distinct, Window, windowOf, Fit, fits}
 use Rattle.temporal.specs.Ends.{fits-fit, fit-fits}
-use Rattle.temporal.specs.Plan.{State, Commitment, window, noEvent, notInside, cause}
+use Rattle.temporal.specs.Plan.{State, ownerOf, countOf, Commitment, window, noEvent, notInside, cause}
 use Rattle.temporal.specs.Run.{Event, Inside, Acceptable, FirstCause, short, unfit, no-event, outside, full}
 
 -- ---- the tests of an event and of a window
@@ -58,8 +60,10 @@ module _ (s : State) (c : Commitment) (P : ℕ → Type 0) where
       → (T (c .room) → T (not (fits (s .ticket) (s .windows))) → P 15)
       → (T (c .room) → T (fits (s .ticket) (s .windows)) → ¬ Event (s .ticket) (c .event) → P 11)
       → (T (c .room) → T (fits (s .ticket) (s .windows)) → Event (s .ticket) (c .event) → ¬ Inside (window c) (windowOf (s .windows) (c .event)) → P 13)
-      → (T (c .room) → T (fits (s .ticket) (s .windows)) → Event (s .ticket) (c .event) → Inside (window c) (windowOf (s .windows) (c .event)) → s .count ≡ 65535 → P 18)
-      → (T (c .room) → T (fits (s .ticket) (s .windows)) → Event (s .ticket) (c .event) → Inside (window c) (windowOf (s .windows) (c .event)) → s .count ≢ 65535 → P 0)
+      → (T (c .room) → T (fits (s .ticket) (s .windows)) → Event (s .ticket) (c .event) → Inside (window c) (windowOf (s .windows) (c .event))
+      → countOf s (ownerOf (s .ticket) (c .event)) ≡ 65535 → P 18)
+      → (T (c .room) → T (fits (s .ticket) (s .windows)) → Event (s .ticket) (c .event) → Inside (window c) (windowOf (s .windows) (c .event))
+      → countOf s (ownerOf (s .ticket) (c .event)) ≢ 65535 → P 0)
       → P (cause s c)
   unfolding cause
   by-cause p10 p15 p11 p13 p18 p0 =
@@ -72,7 +76,8 @@ module _ (s : State) (c : Commitment) (P : ℕ → Type 0) where
       by (notInside (window c) (windowOf (s .windows) (c .event))) 13 _ P
       (λ t. p13 r f e (λ i. T-not (notInside (window c) (windowOf (s .windows) (c .event))) (inside-test (window c) (windowOf (s .windows) (c .event)) i) t)) (λ x₃.
       let i = inside (window c) (windowOf (s .windows) (c .event)) x₃ in
-      by (eqb (s .count) 65535) 18 0 P (λ t. p18 r f e i (eqb→eq (s .count) 65535 t)) (λ x₄. p0 r f e i (λ q. T-not (eqb (s .count) 65535) x₄ (rw q tt)))))))
+      let n = countOf s (ownerOf (s .ticket) (c .event)) in
+      by (eqb n 65535) 18 0 P (λ t. p18 r f e i (eqb→eq n 65535 t)) (λ x₄. p0 r f e i (λ q. T-not (eqb n 65535) x₄ (rw q tt)))))))
 
 -- ---- the laws
 
@@ -127,16 +132,16 @@ past-first : (b : Bool) (r x y : ℕ) → (x ≡ 0 → y ≡ 0) → cond b r x �
 past-first true r x y h e = e
 past-first false r x y h e = h e
 
--- of the number only 65,535 is a cause
-pub cause-number : (s : State) (c : Commitment) (m : ℕ) → m ≢ 65535 → cause s c ≡ 0
-    → cause (record { ticket = s .ticket; windows = s .windows; flags = s .flags; count = m }) c ≡ 0
+-- of the counts only 65,535 of the event's owner is a cause
+pub cause-counts : (s : State) (c : Commitment) (ns : List ℕ) → getD ns (ownerOf (s .ticket) (c .event)) 0 ≢ 65535 → cause s c ≡ 0
+    → cause (record { ticket = s .ticket; windows = s .windows; flags = s .flags; counts = ns }) c ≡ 0
 unfolding cause
-cause-number s c m n =
+cause-counts s c ns n =
     past-first (not (c .room)) 10 _ _
     (past-first (not (fits (s .ticket) (s .windows))) 15 _ _
     (past-first (noEvent (s .ticket) (c .event)) 11 _ _
     (past-first (notInside (window c) (windowOf (s .windows) (c .event))) 13 _ _
-    (λ e. rw (ne-eqb m 65535 n)))))
+    (λ e. rw (ne-eqb (getD ns (ownerOf (s .ticket) (c .event)) 0) 65535 n)))))
 
 -- no commitment is refused without a cause
 pub acceptable-accepted : (s : State) (c : Commitment) → Distinct (s .ticket) → Acceptable s c → cause s c ≡ 0
@@ -191,7 +196,7 @@ first-is s c x d f = by f
         fit g,
         is-event v,
         T-false (notInside (window c) (windowOf (s .windows) (c .event))) (inside-test (window c) (windowOf (s .windows) (c .event)) i),
-        eq-eqb (s .count) 65535 q,
+        eq-eqb (countOf s (ownerOf (s .ticket) (c .event))) 65535 q,
       ) (sym e),
       λ z. omega (arith, z),
     )

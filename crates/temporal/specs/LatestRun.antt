@@ -18,14 +18,14 @@ use Rattle.temporal.specs.Distance.{consistent, consistent-has}
 use Rattle.temporal.specs.Plan.{State, Commitment, Answer, refused, accepted, number, flagged, planned, plan, plannedLatest, planLatest, planFor}
 use Rattle.temporal.specs.FitSets.{fits-closed, consistent-fits}
 use Rattle.temporal.specs.Run.{Valid, Readable, Answered, Claim, numbers, planning, reading}
-use Rattle.temporal.specs.RunHolds.{distinct, none-set, none-flagged, planned-chosen, run, never-unfit}
+use Rattle.temporal.specs.RunHolds.{distinct, none-set, none-counted, none-flagged, planned-chosen, run, never-unfit}
 
--- an accepted latest plan: the ticket's, with no flag set and the number 0; its windows are fit, the widest fit set and of these the latest; reading
+-- an accepted latest plan: the ticket's, with no flag set and every count 0; its windows are fit, the widest fit set and of these the latest; reading
 -- does not refuse it
 pub record LatestPlan (k : Ticket) (s : State) : Type 0 where
   pub ticket : s .ticket ≡ k
   pub free : (p : ℕ) → flagged (s .flags) p ≡ false
-  pub count : s .count ≡ 0
+  pub counts : s .counts ≡ replicate 5 0
   pub chosen : ChosenLatest k (Fit k) (s .windows)
   pub readable : Readable s
   pub fit : Fit (s .ticket) (s .windows)
@@ -40,7 +40,7 @@ latest-chosen k d t =
 
 -- what 02 says of a latest plan determines it
 pub latest-unique : (k : Ticket) → Distinct k → (ws : List Window) → ChosenLatest k (Fit k) ws
-    → planLatest k ≡ accepted (record { ticket = k; windows = ws; flags = replicate (events k) false; count = 0 })
+    → planLatest k ≡ accepted (record { ticket = k; windows = ws; flags = replicate (events k) false; counts = replicate 5 0 })
 unfolding planLatest
 latest-unique k d ws ch =
     let t : T (consistent k) = consistent-has k .1 (fit-schedule k ws (ch .allowed)) in
@@ -59,15 +59,16 @@ latest-plan k v t =
     record {
       ticket = refl;
       free = none-flagged (events k);
-      count = refl;
+      counts = refl;
       chosen = ch;
       readable = record {
         valid = v;
         windows-count = shape .0;
         windows-lie = shape .1;
         flags-count = length-replicate (events k) false;
-        number-least = omega (arith, none-set (events k));
-        number-most = omega arith;
+        counts-count = refl;
+        counts-least = λ o l. omega (arith, none-set o (k .owners) (events k));
+        counts-most = λ o l. omega (arith, none-counted 5 o);
       };
       fit = ch .allowed;
     }
@@ -112,7 +113,7 @@ plan-for false k v = by (plan k) (run (planning k) [] v)
   where
     by : (a : Answer)
         → Answered a (λ r. (r ≡ 9) × ((ts : List ℕ) → ¬ Schedule k ts))
-        (λ s. (s .ticket ≡ k) × ((p : ℕ) → flagged (s .flags) p ≡ false) × (s .count ≡ 0) × Chosen k (Fit k) (s .windows) × Claim s [] s [])
+        (λ s. (s .ticket ≡ k) × ((p : ℕ) → flagged (s .flags) p ≡ false) × (s .counts ≡ replicate 5 0) × Chosen k (Fit k) (s .windows) × Claim s [] s [])
         → Answered a (λ r. r ≡ 9) Readable
     by (refused r) h = h .0
     by (accepted s) h = h .4 .readable

@@ -71,4 +71,5 @@ state-bytes s r =
     (after-each-other (bytes 2 (length (s .windows))) _ (number-bytes 2 (length (s .windows)))
     (after-each-other (each writeWindow (entries (s .flags) (s .windows))) _
     (each-bytes writeWindow (entries (s .flags) (s .windows)) (∈-All (entries (s .flags) (s .windows)) (λ e m. window-bytes e)))
-    (number-bytes 2 (s .count))))
+    (after-each-other (bytes 2 5) _ (number-bytes 2 5)
+    (each-bytes (bytes 2) (s .counts) (∈-All (s .counts) (λ k m. number-bytes 2 k))))))

@@ -13,5 +13,5 @@ pub ticket-bytes : (t : Ticket) → Valid t → length (writeTicket t) ≤ 1584
 ticket-bytes t g = omega (arith, length-ticket t, g .events-limit, g .rules-limit)
 
 -- RECORD_BYTES is room for every readable state.
-pub record-bytes : (x : State) → Readable x → length (writeState x) ≤ 1948
+pub record-bytes : (x : State) → Readable x → length (writeState x) ≤ 1958
 record-bytes x g = omega (arith, length-readable x g, g .windows-count, g .valid .events-limit, g .valid .rules-limit)

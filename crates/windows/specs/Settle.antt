@@ -13,11 +13,11 @@ use Rattle.temporal.specs.Ticket as temporal
 use Rattle.temporal.specs.Ticket.{events, Window, origin}
 use Rattle.temporal.specs.Ends.{Ends, Lies, schedule-test, fit-ends}
 use Rattle.temporal.specs.Best.{Chosen}
-use Rattle.temporal.specs.Plan.{asking, accepted, refused, put, plan, cause, commit}
+use Rattle.temporal.specs.Plan.{ownerOf, raise, asking, accepted, refused, put, plan, cause, commit}
 use Rattle.temporal.specs.FitSets.{Grows, narrowed, test-grows, itself-grows}
 use Rattle.temporal.specs.Answers.{plan-is, plan-refused, commit-is}
 use Rattle.temporal.specs.Run.{Valid, Acceptable}
-use Rattle.temporal.specs.Causes.{acceptable, cause-number}
+use Rattle.temporal.specs.Causes.{acceptable, cause-counts}
 use Rattle.temporal.specs.RunHolds.{distinct}
 use Rattle.network.specs.Lists.{zeros-at}
 use Rattle.network.specs.Stored.{at}
@@ -92,7 +92,8 @@ module _ {t : Ticket} (G : Given t) where
       none (suc n) (suc i) = none n i
 
   module _ (opens closes : List ℕ) (C : Chosen (content t) (Allowed t (at (replicate 81 0)) (at (replicate 81 (t .horizon)))) (windowList (t .events) opens closes)) where
-    pub plan-answer : {times : List ℕ} {r : Bool} → Decided t times r → r ≡ true → plan (content t) ≡ accepted (stateIn t (replicate 40 0) opens closes 0)
+    pub plan-answer : {times : List ℕ} {r : Bool} → Decided t times r → r ≡ true
+        → plan (content t) ≡ accepted (stateIn t (replicate 40 0) opens closes (replicate 5 0))
     unfolding windowList flagList
     plan-answer {times} D e =
         rw no-flags
@@ -170,17 +171,17 @@ module _ (n i : ℕ) (lt : i < n) where
   unfolding flagList
   put-flag flags l = firsts-set n _ _ i _ lt (ap (λ x. eqb x 1) (getD-set-same flags i 1 0 l)) (λ j q. ap (λ x. eqb x 1) (getD-set-other flags i j 1 0 q))
 
--- a commitment that nothing refuses, where the number can rise
+-- a commitment that nothing refuses, where the owner's count can rise
 pub record Asked (t : Ticket) (flags opens closes : List ℕ) (event o c : ℕ) : Type 0 where
   pub valid : Valid (content t)
-  pub passes : cause (stateIn t flags opens closes 0) (asking event o c) ≡ 0
+  pub passes : cause (stateIn t flags opens closes (replicate 5 0)) (asking event o c) ≡ 0
   pub flags-long : length flags ≡ 40
   pub opens-long : length opens ≡ 40
   pub closes-long : length closes ≡ 40
 
 module _ {t : Ticket} {flags opens closes : List ℕ} {event o c : ℕ} (A : Asked t flags opens closes event o c) where
-  asked : Acceptable (stateIn t flags opens closes 0) (asking event o c)
-  asked = acceptable (stateIn t flags opens closes 0) (asking event o c) (rw (A .passes) tt)
+  asked : Acceptable (stateIn t flags opens closes (replicate 5 0)) (asking event o c)
+  asked = acceptable (stateIn t flags opens closes (replicate 5 0)) (asking event o c) (rw (A .passes) tt)
 
   pub asked-event : (0 < event) × (event ≤ t .events) × (event ≤ 40)
   asked-event = (asked .event .0, rw (in-events t) at (asked .event .1), omega (arith, asked .event .1, A .valid .events-limit))
@@ -210,13 +211,14 @@ module _ {t : Ticket} {flags opens closes : List ℕ} {event o c : ℕ} (A : Ask
   pub commit-answer : (opens' closes' : List ℕ)
       → Chosen (content t) (Grows (content t) (flagList (t .events) (set flags (event - 1) 1)) (windowList (t .events) (set opens (event - 1) o) (set closes (event - 1) c)))
       (windowList (t .events) opens' closes')
-      → (count : ℕ) → count ≢ 65535
-      → commit (stateIn t flags opens closes count) (asking event o c) ≡ accepted (stateIn t (set flags (event - 1) 1) opens' closes' (suc count))
+      → (counts : List ℕ) → getD counts (ownerOf (content t) event) 0 ≢ 65535
+      → commit (stateIn t flags opens closes counts) (asking event o c)
+      ≡ accepted (stateIn t (set flags (event - 1) 1) opens' closes' (raise counts (ownerOf (content t) event)))
   unfolding windowList flagList
-  commit-answer opens' closes' C count n =
+  commit-answer opens' closes' C counts n =
       rw flag-is
-      (commit-is (stateIn t flags opens closes count) (asking event o c) (windowList (t .events) opens' closes')
-      (cause-number (stateIn t flags opens closes 0) (asking event o c) count n (A .passes)) (rw (flag-is, window-is) at C))
+      (commit-is (stateIn t flags opens closes counts) (asking event o c) (windowList (t .events) opens' closes')
+      (cause-counts (stateIn t flags opens closes (replicate 5 0)) (asking event o c) counts n (A .passes)) (rw (flag-is, window-is) at C))
 
   -- the store of the new window stays within the events
   pub asked-within : {xs' : List ℕ} (xs : List ℕ) (x : ℕ) → Within (t .events) (set xs (event - 1) x) xs' → Within (t .events) xs xs'

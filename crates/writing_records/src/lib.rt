@@ -2,15 +2,14 @@
 // Rests on crate ticket, which has the structs and the bytes that the contracts name, and on crate writing, which writes the record's ticket.
 ghost use mathlib.Core.Path.{_≡_};
 ghost use Prim.Native.Nat.{ℕ, _+_, _*_, _≤_, _<_};
-ghost use lib.Dec.{eqb};
 ghost use lib.ListN.{length};
 ghost use lib.Seq.{sets};
 ghost use mathlib.Core.List.{[]};
-ghost use Rattle.temporal.specs.Run.{setFlags};
-ghost use Rattle.ticket.specs.Writer.{each, flagByte, windowBytes, writeWindow, writeState};
-ghost use Rattle.ticket.specs.Writing.{firsts, tests, stateOf, testWindow, testRecord, verdict, Storable, over, recordWritten, recordOutput};
+ghost use Rattle.ticket.specs.Writer.{bytes, each, windowBytes, writeWindow, writeState};
+ghost use Rattle.ticket.specs.Writing.{firsts, tests, stateOf, testWindow, testCount, testRecord, verdict, Storable, over, recordWritten, recordOutput};
 ghost use Rattle.writing.specs.Rules.{numberAt};
 ghost use Rattle.writing_records.specs.Parts.{entryOf, planBytes};
+use ticket::DEVICES;
 use ticket::RECORD_BYTES;
 use ticket::Record;
 use ticket::Ticket;
@@ -37,27 +36,21 @@ fn test_windows(r: Record) -> u32
     0
 }
 
-// 1 for a flag that is set, 0 for any other.
-fn one(flag: u8) -> u32
-    ensures { λ r. ⌜ (r ≡ flagByte (eqb flag 1)) × (r ≤ 1) ⌝ }
-{
-    if flag == 1 { 1 } else { 0 }
-}
-
-// The number of set flags of r.
-fn set_flags(r: Record) -> u32
+// The first cause among the counts of r, or 0.
+fn test_counts(r: Record) -> u32
     requires { ⌜ r .ticket .events ≤ 40 ⌝ }
-    ensures { λ k. ⌜ k ≡ setFlags (stateOf r .flags) ⌝ }
+    ensures { λ k. ⌜ k ≡ verdict (tests 5 (testCount r) []) ⌝ }
 {
-    let n = r.ticket.events;
-    let mut count = 0;
-    let mut i = 0;
-    while i < n {
-        let f = r.flags[i];
-        count += one(f);
-        i += 1;
+    let xs = ticket::flag_counts(r.ticket.owners, r.flags, r.ticket.events);
+    let mut o = 0;
+    while o < DEVICES {
+        let k = ticket::count_cause(xs[o], r.counts[o]);
+        if k != 0 {
+            return k;
+        }
+        o += 1;
     }
-    count
+    0
 }
 
 // The first cause in r, or 0.
@@ -73,13 +66,7 @@ fn test_record(r: Record) -> u32
     if l != 0 {
         return l;
     }
-    if r.number < set_flags(r) {
-        return 14;
-    }
-    if ticket::NUMBER < r.number {
-        return 14;
-    }
-    0
+    test_counts(r)
 }
 
 // A window with its flag, at `at`.
@@ -111,23 +98,37 @@ fn put_windows<'a>(
     }
 }
 
+// The counts at `at`.
+fn put_counts(out: &mut [u8], at: usize, counts: [u32; DEVICES])
+    requires { ⌜ at + 10 ≤ length (now out) ⌝ }
+    ensures { λ _. ⌜ now (out .exit) ≡ sets (now (out .entry)) at (each (bytes 2) (firsts 5 (numberAt counts))) ⌝ }
+{
+    let mut o = 0;
+    while o < DEVICES {
+        let count = counts[o] as usize;
+        writing::put_u16(out, at + 2 * o, count);
+        o += 1;
+    }
+}
+
 // What comes after the ticket of r, at `at`.
 fn put_plan(r: Record, out: &mut [u8], at: usize)
     requires { ⌜ Storable r ⌝ }
-    requires { ⌜ at + 4 + 9 * r .ticket .events ≤ length (now out) ⌝ }
+    requires { ⌜ at + 14 + 9 * r .ticket .events ≤ length (now out) ⌝ }
     ensures { λ _. ⌜ now (out .exit) ≡ sets (now (out .entry)) at (planBytes r) ⌝ }
 {
     let n = r.ticket.events;
-    let number = r.number as usize;
+    let counts = r.counts;
     writing::put_u16(out, at, n);
     put_windows(out, at + 2, n, &r.flags, &r.opens, &r.closes);
-    writing::put_u16(out, at + 2 + 9 * n, number);
+    writing::put_u16(out, at + 2 + 9 * n, DEVICES);
+    put_counts(out, at + 4 + 9 * n, counts);
 }
 
 // The bytes of r at the start of out, with no test. How many they are.
 pub fn put_record(r: Record, out: &mut [u8]) -> usize
     requires { ⌜ Storable r ⌝ }
-    requires { ⌜ 1948 ≤ length (now out) ⌝ }
+    requires { ⌜ 1958 ≤ length (now out) ⌝ }
     ensures { λ k. ⌜ k ≡ length (writeState (stateOf r)) ⌝ }
     ensures { λ k. ⌜ now (out .exit) ≡ over (writeState (stateOf r)) (now (out .entry)) ⌝ }
 {
@@ -136,7 +137,7 @@ pub fn put_record(r: Record, out: &mut [u8]) -> usize
     let m = t.rules;
     writing::put_ticket(t, out);
     put_plan(r, out, 8 + n + 6 * m);
-    12 + 10 * n + 6 * m
+    22 + 10 * n + 6 * m
 }
 
 // The record at the start of out.

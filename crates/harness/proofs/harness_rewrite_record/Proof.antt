@@ -15,7 +15,7 @@ use Rattle.harness.proofs.harness_rewrite_record.Tie as tie
 returns : tie.Need-returns
 returns c =
     let entry : tie.Start = search needs in
-    rw (rewriting-short 1948 readState (entry .args .«record» .now) (entry .args .out .now) (c .if1 .taken)) (search needs)
+    rw (rewriting-short 1958 readState (entry .args .«record» .now) (entry .args .out .now) (c .if1 .taken)) (search needs)
 
 returns-2 : tie.Need-returns-2
 returns-2 c =
@@ -38,7 +38,7 @@ returns-3 c =
     let w = after-write .write-record .ensures in
     let z : wholeRecord bytes .number ≡ 0 = sym (ap (λ (x : ReadRecord). x .number) r) ∙ accepted .if2 .left in
     let g = record-again bytes out (λ i. omega (arith, lent .shared-slice-known .given i)) (room .if1 .left) z in
-    rewriting-again 1948 readState bytes out (writingRecord out (after-read .read-record .result .plan) []) (after-write .write-record .result)
+    rewriting-again 1958 readState bytes out (writingRecord out (after-read .read-record .result .plan) []) (after-write .write-record .result)
     (after-write .write-record .last .1 .0) (c .narrow .result)
     (ap (λ (t : Record). writingRecord out t []) (ap (λ (x : ReadRecord). x .plan) r) ∙ g .0) (g .1) (w .0) (w .1) (c .narrow .ensures)
 

@@ -11,13 +11,15 @@ use Rattle.harness.proofs.harness_write_record.Tie as tie
 
 returns : tie.Need-returns
 returns c =
-    let a = c .before .before .before .before .before .before .before .before .before .before .before .before .before .before .before .before .args in
+    let entry : tie.Start = search needs in
+    let a = entry .args in
     let out = a .out .now in
-    let same = recorded-of _ _ _ (a .flags .now) _ (a .opens .now) _ (a .closes .now) (a .number)
-    (c .before .before .before .before .before .before .before .before .ticket-of .ensures)
-    (c .before .before .before .before .before .before .before .byte-places .ensures)
-    (c .before .before .before .before .before .before .tick-places .ensures)
-    (c .before .before .before .before .before .tick-places2 .ensures) in
+    let same = recorded-of _ _ _ (a .flags .now) _ (a .opens .now) _ (a .closes .now) _ (a .counts .now)
+    (c .before .before .before .before .before .before .before .before .before .ticket-of .ensures)
+    (c .before .before .before .before .before .before .before .before .byte-places .ensures)
+    (c .before .before .before .before .before .before .before .tick-places .ensures)
+    (c .before .before .before .before .before .before .tick-places2 .ensures)
+    (c .before .before .before .before .before .count-places .ensures) in
     let w = c .before .before .before .write-record .ensures in
     let told = w .0 ∙ ap (recordWritten out) same in (
       ap (λ (r : Written). r .number) told,
@@ -28,6 +30,7 @@ pub harness-write-record-spec : {M : Type 1} → statement M
 harness-write-record-spec =
     tie.close
     (tie.spec
+    (λ c κs. search needs)
     (λ c κs. search needs)
     (λ c κs. search needs)
     (λ c κs. search needs)

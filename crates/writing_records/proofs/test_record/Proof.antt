@@ -2,12 +2,10 @@
 use Prim.Native.Nat.{_≤_}
 use mathlib.Core.Path.{_≡_, sym, ap, _∙_}
 use mathlib.Core.List.{[]}
-use native.Mathlib.Omega.{arith}
-use Rattle.temporal.specs.Run.{setFlags}
-use Rattle.ticket.specs.Parser.{got, number}
-use Rattle.ticket.specs.Writing.{stateOf, tests, testTicket, testWindow, verdict}
+use Rattle.ticket.specs.Parser.{got}
+use Rattle.ticket.specs.Writing.{tests, testTicket, testWindow, verdict}
 use Rattle.ticket.specs.WritingLaws.{verdict-refused, verdict-passed, ticket-fixed, tests-fixed, window-test-fixed}
-use Rattle.ticket.specs.WriteStages.{ticket-fails, windows-fail, number-low, number-high, record-passes}
+use Rattle.ticket.specs.WriteStages.{ticket-fails, windows-fail, last-counts}
 use Rattle.ticket.specs.Agree.{tested-valid}
 use borrow.Author.Needs.{needs}
 use Rattle.writing_records.proofs.test_record.Statement.{statement}
@@ -61,36 +59,13 @@ returns-2 c =
     let no = verdict-refused (tests (r .ticket .events) (testWindow r) []) (k .result) (k .ensures) (c .if2 .taken) in
     no .2 ∙ ap verdict (sym (windows-fail r (passed t) (no .0) (no .1)))
 
-set-flags-requires : tie.Need-set-flags-requires
-set-flags-requires c κs = few (search needs)
+test-counts-requires : tie.Need-test-counts-requires
+test-counts-requires c κs = few (search needs)
 
 returns-3 : tie.Need-returns-3
-unfolding number
 returns-3 c =
     let w : tie.Else2 = search needs in
-    let r = entry (ticket-fits w) .args .r in
-    let k = c .before .before .set-flags in
-    ap verdict (sym (number-low r (passed (ticket-fits w)) (windows-passed w) (omega (arith, c .if3 .taken, k .ensures))))
-
--- The number is not below the flags.
-enough : (c : tie.Else3) → let r = entry (ticket-fits (c .before .before .before)) .args .r in
-    setFlags (stateOf r .flags) ≤ r .number
-enough c = omega (arith, c .if3 .left, c .before .before .set-flags .ensures)
-
-returns-4 : tie.Need-returns-4
-unfolding number
-returns-4 c =
-    let e : tie.Else3 = search needs in
-    let w = e .before .before .before in
-    let r = entry (ticket-fits w) .args .r in
-    ap verdict (sym (number-high r (passed (ticket-fits w)) (windows-passed w) (enough e) (c .if4 .taken)))
-
-returns-5 : tie.Need-returns-5
-returns-5 c =
-    let e : tie.Else3 = search needs in
-    let w = e .before .before .before in
-    let r = entry (ticket-fits w) .args .r in
-    ap verdict (sym (record-passes r (passed (ticket-fits w)) (windows-passed w) (enough e) (omega (arith, c .if4 .left))))
+    c .test-counts .ensures ∙ ap verdict (sym (last-counts (entry (ticket-fits w) .args .r) (passed (ticket-fits w)) (windows-passed w)))
 
 pub test-record-spec : {M : Type 1} → statement M
 test-record-spec =
@@ -100,7 +75,5 @@ test-record-spec =
     returns
     test-windows-requires
     returns-2
-    set-flags-requires
-    returns-3
-    returns-4
-    returns-5)
+    test-counts-requires
+    returns-3)
