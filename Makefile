@@ -1,8 +1,8 @@
 # make           the library and the program, proved and built
 # make plan      the plan of $(TICKET), a ticket as text
 # make latest    its latest plan
-# make commit    its plan, and the windows after each commitment in $(BY), with the names of its events;
-#                BY="shutter 6..10, shutter 10..10" commits an event and then narrows its window again
+# make commit    its plan, and the windows and the devices' counts after each commitment in $(BY), with the names of
+#                its events; BY="shutter 6..10, shutter 10..10" commits an event and then narrows its window again
 # make table     its table of distances, with the names of its events; with STOPS=1 the table before the first
 #                stop and after each, from the last event back to the first and then the start
 # make reason    why no times keep its rules, with the names of its events and of the devices in $(ROSTER)

@@ -3,8 +3,9 @@
  *
  * It prints the plan's record, then for each commitment a line "commit" with its numbers, and the record that it gives
  * or "refused" and the number. After a refusal the record stays, and the next commitment goes on from it. A record is
- * a line "record" with the number of accepted commitments and the total width, then a line for each event: its number,
- * 1 if it is committed and 0 if it is free, open and close. A ticket that has no plan prints "refused" and the number.
+ * a line "record" with the total width and the counts, of each of the five devices how many commitments were accepted,
+ * then a line for each event: its number, 1 if it is committed and 0 if it is free, open and close. A ticket that has
+ * no plan prints "refused" and the number.
  *
  *     cc -std=c99 -Iinclude examples/commit.c target/staticlib/libbeyunlak.a -o commit
  *     ./commit [EVENT OPEN CLOSE].. <TICKET
@@ -38,14 +39,18 @@ static int refused(uint32_t answer)
     return 1;
 }
 
-/* The windows stand after the ticket and a count, and the number of accepted commitments after the windows. */
+/* The windows stand after the ticket and n again, and the counts at the end. */
 static void print(const uint8_t *record, uint32_t n, uint32_t m)
 {
     const uint8_t *windows = record + BEYUNLAK_TICKET_LENGTH(n, m) + 2;
+    const uint8_t *counts = record + BEYUNLAK_RECORD_LENGTH(n, m) - 2 * BEYUNLAK_DEVICES;
     uint32_t total = 0;
     for (uint32_t i = 0; i < n; i++)
         total += get(windows + 9 * i + 5, 4) - get(windows + 9 * i + 1, 4);
-    printf("record %u %u\n", (unsigned)get(windows + 9 * n, 2), (unsigned)total);
+    printf("record %u", (unsigned)total);
+    for (int device = 0; device < BEYUNLAK_DEVICES; device++)
+        printf(" %u", (unsigned)get(counts + 2 * device, 2));
+    printf("\n");
     for (uint32_t i = 0; i < n; i++) {
         const uint8_t *window = windows + 9 * i;
         printf("%u %u %u %u\n", (unsigned)(i + 1), (unsigned)window[0], (unsigned)get(window + 1, 4),

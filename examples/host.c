@@ -1,5 +1,6 @@
 /* A small host: makes a ticket of two events, plans it, lets event 1 commit to 6..10 and then to tick 10, prints
- * the windows each time, shows a commitment that is refused, and prints the latest plan of the same ticket.
+ * the windows and each device's count of accepted commitments each time, shows a commitment that is refused, lets
+ * event 2 commit, and prints the latest plan of the same ticket.
  *
  *     cc -std=c99 -Iinclude examples/host.c target/staticlib/libbeyunlak.a -o host && ./host
  */
@@ -49,32 +50,32 @@ static size_t make_ticket(uint8_t *ticket)
     return (size_t)(at - ticket);
 }
 
-/* The ticket's counts say where the windows stand and how long the record is. */
-static size_t windows_at(const uint8_t *record)
-{
-    uint32_t n = get(record + 4, 2);
-    return BEYUNLAK_TICKET_LENGTH(n, get(record + 6 + n, 2)) + 2;
-}
-
+/* The ticket's n and m say how long the record is. */
 static size_t length(const uint8_t *record)
 {
-    return windows_at(record) + 9 * (size_t)get(record + 4, 2) + 2;
+    uint32_t n = get(record + 4, 2);
+    return BEYUNLAK_RECORD_LENGTH(n, get(record + 6 + n, 2));
 }
 
+/* The windows stand after the ticket and n again, the counts at the end of the record. */
 static void print(const char *title, const uint8_t *record)
 {
     uint32_t n = get(record + 4, 2);
+    const uint8_t *windows = record + BEYUNLAK_TICKET_LENGTH(n, get(record + 6 + n, 2)) + 2;
+    const uint8_t *counts = record + length(record) - 2 * BEYUNLAK_DEVICES;
     uint32_t total = 0;
     printf("%s\n", title);
     for (uint32_t i = 0; i < n; i++) {
-        const uint8_t *window = record + windows_at(record) + 9 * (size_t)i;
+        const uint8_t *window = windows + 9 * (size_t)i;
         uint32_t open = get(window + 1, 4), close = get(window + 5, 4);
         printf("  event %u, owner %u: %u..%u%s\n", (unsigned)(i + 1), (unsigned)record[6 + i],
                (unsigned)open, (unsigned)close, window[0] ? ", committed" : "");
         total += close - open;
     }
-    printf("  total %u, accepted commitments %u\n", (unsigned)total,
-           (unsigned)get(record + length(record) - 2, 2));
+    printf("  total %u, accepted commitments by owner:", (unsigned)total);
+    for (int owner = 0; owner < BEYUNLAK_DEVICES; owner++)
+        printf(" %u", (unsigned)get(counts + 2 * owner, 2));
+    printf("\n");
 }
 
 static const char *reason(uint32_t answer)
@@ -97,7 +98,7 @@ static const char *reason(uint32_t answer)
     case BEYUNLAK_UNFIT: return "record's windows are not fit";
     case BEYUNLAK_NAMES: return "list of names breaks the layout";
     case BEYUNLAK_POSSIBLE: return "a schedule exists";
-    case BEYUNLAK_COUNT: return "number of commitments cannot rise";
+    case BEYUNLAK_COUNT: return "owner's count cannot rise";
     default: return "unknown answer";
     }
 }
@@ -139,6 +140,11 @@ int main(void)
     refused("event 1 at 9..9", beyunlak_commit(record, record_len, 1, 9, 9, next, sizeof next));
     if (memcmp(next, record, record_len) != 0)
         return 1;
+
+    /* The lamps' count rises, the camera's stays. */
+    if (refused("event 2 at 10..12", beyunlak_commit(record, record_len, 2, 10, 12, next, sizeof next)))
+        return 1;
+    print("after event 2 commits 10..12", next);
 
     /* As wide, and every window as late as it can be. */
     if (refused("latest planning", beyunlak_plan_latest(ticket, ticket_len, record, sizeof record)))

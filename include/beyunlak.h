@@ -39,10 +39,17 @@
  *                           1 byte   1 if the event is committed, 0 if it is free
  *                           4 bytes  open, the first tick of the window
  *                           4 bytes  close, the last tick; open <= close <= horizon
- *     T + 2 + 9n   2      the number of accepted commitments, at least the number of committed events
- *   A record has T + 4 + 9n bytes. The length is not returned, since n and m stand in the record.
- *   The last number is 0 in a plan and rises by one with each accepted commitment, also where the event was
- *   committed before. At 65,535 it cannot rise, and no commitment is accepted.
+ *     T + 2 + 9n   2      the number of devices, 5 (BEYUNLAK_DEVICES)
+ *     T + 4 + 9n   10     the counts: for each device, in the order of enum beyunlak_owner, 2 bytes, the count
+ *                         of its accepted commitments, at least the number of its committed events
+ *   A record has T + 14 + 9n bytes. The length is not returned, since n and m stand in the record.
+ *   The last ten bytes of a record are the counts; that of device d begins 10 - 2d bytes before the end.
+ *   They are 0 in a plan. An accepted commitment raises the count of the event's owner by one, also where the
+ *   event was committed before, and leaves the other four. So after any commitments on a record each count is
+ *   what it was there plus the accepted commitments of that device's events. At 65,535 a count cannot rise, and
+ *   no commitment of an event of that device is accepted.
+ *   A record of the former layout, with one number for all devices in place of these last twelve bytes, is
+ *   refused: 14, or 1 where that number is 5.
  *   A window of width 0 (open = close) is one tick. The total width of a plan, the sum of close - open, is not
  *   stored: it follows from the windows.
  *
@@ -141,17 +148,17 @@ extern "C" {
 #define BEYUNLAK_RULES_MAX 256
 #define BEYUNLAK_BOUND_MAX 1000000 /* either way: -1,000,000 to 1,000,000 */
 
-/* The largest last number of a record. */
+/* The largest count of a device in a record. */
 #define BEYUNLAK_COUNT_MAX 65535
 
 /* Lengths in bytes, for n events and m rules. */
 #define BEYUNLAK_TICKET_LENGTH(n, m) (8 + (size_t)(n) + 6 * (size_t)(m))
-#define BEYUNLAK_RECORD_LENGTH(n, m) (BEYUNLAK_TICKET_LENGTH(n, m) + 4 + 9 * (size_t)(n))
+#define BEYUNLAK_RECORD_LENGTH(n, m) (BEYUNLAK_TICKET_LENGTH(n, m) + 14 + 9 * (size_t)(n))
 
 /* The longest ticket and the longest record. An output holds at least BEYUNLAK_RECORD_MAX bytes, also for a
  * short record: under that the answer is BEYUNLAK_SHORT. */
 #define BEYUNLAK_TICKET_MAX 1584
-#define BEYUNLAK_RECORD_MAX 1948
+#define BEYUNLAK_RECORD_MAX 1958
 
 /* How many numbers the largest table has. A table's output holds at least as many, also for fewer events:
  * under that the answer is BEYUNLAK_SHORT. */
@@ -187,8 +194,9 @@ struct beyunlak_rule {
 };
 
 /* The answers. The output's length is tested first. Then the input is read field by field in the order of its
- * bytes, each field's presence before its value, and the first cause decides. Then come 9 for a ticket, and
- * 15, 11, 13, 18 in this order for a commitment. The orders of both tables and of a reason stand at
+ * bytes, each field's presence before its value, and the first cause decides. Each rule is a field, each window
+ * with its flag, and each count: one that is too low is 14, though the next is cut off. Then come 9 for a
+ * ticket, and 15, 11, 13, 18 in this order for a commitment. The orders of both tables and of a reason stand at
  * beyunlak_table, beyunlak_table_after and beyunlak_reason. */
 enum beyunlak_answer {
     BEYUNLAK_ACCEPTED = 0,
@@ -205,12 +213,12 @@ enum beyunlak_answer {
     BEYUNLAK_EVENT = 11,     /* a commitment to event 0 or to one above n */
     BEYUNLAK_COMMITTED = 12, /* no longer answered: a committed event may be committed again */
     BEYUNLAK_WINDOW = 13,    /* open is above close, or they are not inside the event's window */
-    BEYUNLAK_LAYOUT = 14,    /* the record's second count, a flag or a window is wrong, or its last number is
-                                below the number of committed events */
+    BEYUNLAK_LAYOUT = 14,    /* the record's second n, a flag, a window or the number of devices is wrong, or a
+                                device's count is below the number of its committed events */
     BEYUNLAK_UNFIT = 15,     /* the record's windows allow a choice that breaks a rule */
     BEYUNLAK_NAMES = 16,     /* a list of names breaks its layout */
     BEYUNLAK_POSSIBLE = 17,  /* a schedule exists: some times keep all rules, so there is no reason */
-    BEYUNLAK_COUNT = 18      /* the record's last number is 65,535 and cannot rise */
+    BEYUNLAK_COUNT = 18      /* the count of the event's owner is 65,535 and cannot rise */
 };
 
 /*
@@ -231,9 +239,9 @@ uint32_t beyunlak_plan_latest(const uint8_t *ticket, size_t ticket_len, uint8_t 
  * The record after `event` is committed to the window `open` to `close`, which lies inside its present one.
  * A committed event may be committed again to any window inside its present one, the same included; the last
  * one counts. The other committed events keep their windows and every free window contains its former one; of
- * all such sets the widest is taken, then the earliest, as in a plan. The record may come from a plan, from a
- * commitment, or from elsewhere, if its windows are fit. After a refusal go on with the record that was handed
- * in. examples/commit.c is a whole program.
+ * all such sets the widest is taken, then the earliest, as in a plan. The count of the event's owner rises by
+ * one. The record may come from a plan, from a commitment, or from elsewhere, if its windows are fit. After a
+ * refusal go on with the record that was handed in. examples/commit.c is a whole program.
  * Answers 0 to 8, 10, 11, 13 to 15 and 18.
  */
 uint32_t beyunlak_commit(const uint8_t *record, size_t record_len, uint32_t event, uint32_t open,

@@ -20,7 +20,7 @@ extern "C" uint32_t beyunlak_commit(const uint8_t *record, size_t record_len, ui
 
 namespace {
 
-constexpr size_t record_limit = 1948;
+constexpr size_t record_limit = 1958;
 constexpr int tickets_each = 6;
 const std::vector<int> sizes = {5, 10, 20, 40};
 

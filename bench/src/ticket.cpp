@@ -150,13 +150,16 @@ std::vector<uint8_t> ticket_bytes(const Ticket &ticket) {
 
 std::vector<uint8_t> record_bytes(const Ticket &ticket, const Windows &windows, const std::vector<bool> &committed) {
     std::vector<uint8_t> bytes = ticket_bytes(ticket);
+    std::vector<int> counts(5);
     put(bytes, ticket.events(), 2);
     for (size_t k = 0; k < windows.size(); k++) {
         put(bytes, committed[k], 1);
         put(bytes, windows[k].open, 4);
         put(bytes, windows[k].close, 4);
+        counts[ticket.owners[k]] += committed[k];
     }
-    put(bytes, std::count(committed.begin(), committed.end(), true), 2);
+    put(bytes, static_cast<int64_t>(counts.size()), 2);
+    for (int count : counts) put(bytes, count, 2);
     return bytes;
 }
 

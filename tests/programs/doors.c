@@ -1,6 +1,6 @@
 /* The header against the library: every answer under its name, the lengths, what is left in the output, the
- * examples of latest plans and commitments, narrowing again and the number of accepted commitments, both tables, and
- * reasons. Prints a line a check, "ok NAME" or "FAILED NAME". Called with a word it leaves out what takes long. */
+ * examples of latest plans and commitments, narrowing again, the counts of the devices, both tables, and reasons.
+ * Prints a line a check, "ok NAME" or "FAILED NAME". Called with a word it leaves out what takes long. */
 #include <stdio.h>
 #include <stdlib.h>
 #include <string.h>
@@ -52,7 +52,17 @@ static void window(uint32_t flag, uint32_t open, uint32_t close)
     put(close, 4);
 }
 
-/* The ticket of P1, and a record of it with two windows. */
+static void counts(uint32_t camera, uint32_t wheel, uint32_t lamps, uint32_t stage, uint32_t database)
+{
+    put(BEYUNLAK_DEVICES, 2);
+    put(camera, 2);
+    put(wheel, 2);
+    put(lamps, 2);
+    put(stage, 2);
+    put(database, 2);
+}
+
+/* The ticket of P1, and a record of it with two windows and the counts of the devices that own them. */
 static void trains(void)
 {
     start(20, 2);
@@ -68,18 +78,18 @@ static void trains(void)
 }
 
 static void trains_flags(uint32_t flag, uint32_t a, uint32_t b, uint32_t second, uint32_t c, uint32_t d,
-                         uint32_t count)
+                         uint32_t camera, uint32_t lamps)
 {
     trains();
     put(2, 2);
     window(flag, a, b);
     window(second, c, d);
-    put(count, 2);
+    counts(camera, 0, lamps, 0, 0);
 }
 
-static void trains_record(uint32_t flag, uint32_t a, uint32_t b, uint32_t c, uint32_t d, uint32_t count)
+static void trains_record(uint32_t flag, uint32_t a, uint32_t b, uint32_t c, uint32_t d, uint32_t camera)
 {
-    trains_flags(flag, a, b, 0, c, d, count);
+    trains_flags(flag, a, b, 0, c, d, camera, 0);
 }
 
 static void fill(void)
@@ -167,7 +177,7 @@ static void records(void)
     refuses("13 open above close", commit(1, 9, 8, BEYUNLAK_RECORD_MAX), BEYUNLAK_WINDOW);
     refuses("13 outside", commit(2, 8, 10, BEYUNLAK_RECORD_MAX), BEYUNLAK_WINDOW);
     trains_record(1, 5, 10, 8, 9, 0);
-    refuses("14 last number", commit(1, 6, 6, BEYUNLAK_RECORD_MAX), BEYUNLAK_LAYOUT);
+    refuses("14 count", commit(1, 6, 6, BEYUNLAK_RECORD_MAX), BEYUNLAK_LAYOUT);
     trains_record(0, 5, 4, 8, 9, 0);
     refuses("14 window", commit(1, 6, 6, BEYUNLAK_RECORD_MAX), BEYUNLAK_LAYOUT);
     trains_record(0, 5, 15, 8, 19, 0);
@@ -189,7 +199,7 @@ static void examples(void)
     gives("P2", answer);
     trains_record(0, 15, 15, 13, 19, 0);
     answer = commit(2, 13, 13, sizeof out);
-    trains_flags(0, 9, 15, 1, 13, 13, 1);
+    trains_flags(0, 9, 15, 1, 13, 13, 0, 1);
     gives("P3", answer);
     for (int last = 0; last < 2; last++) {
         start(5, 3);
@@ -201,7 +211,7 @@ static void examples(void)
         window((uint32_t)last, last ? 2 : 0, last ? 2 : 5);
         window(0, 0, last ? 2 : 0);
         window(0, 0, 0);
-        put((uint32_t)last, 2);
+        counts(0, 0, 0, (uint32_t)last, 0);
         if (last)
             gives("P5", answer);
         else
@@ -231,7 +241,7 @@ static void latest_examples(void)
     window(0, 5, 5);
     window(0, 5, 5);
     window(0, 0, 5);
-    put(0, 2);
+    counts(0, 0, 0, 0, 0);
     gives("P4", answer);
     start(10, 2);
     owners(2, BEYUNLAK_STAGE);
@@ -242,7 +252,7 @@ static void latest_examples(void)
     put(2, 2);
     window(0, 10, 10);
     window(0, 9, 9);
-    put(0, 2);
+    counts(0, 0, 0, 0, 0);
     gives("P6", answer);
 }
 
@@ -255,14 +265,14 @@ static void latest_then_commitment(void)
     memcpy(in, out, in_len = BEYUNLAK_RECORD_LENGTH(2, 6));
     check("P1 to commit on", answer == BEYUNLAK_ACCEPTED);
     answer = commit(2, 13, 13, BEYUNLAK_RECORD_MAX);
-    trains_flags(0, 9, 15, 1, 13, 13, 1);
+    trains_flags(0, 9, 15, 1, 13, 13, 0, 1);
     gives("P1, then event 2 commits 13..13", answer);
     trains_record(0, 15, 15, 13, 19, 0);
     answer = commit(2, 13, 14, BEYUNLAK_RECORD_MAX);
-    trains_flags(0, 10, 15, 1, 13, 14, 1);
+    trains_flags(0, 10, 15, 1, 13, 14, 0, 1);
     gives("P1, then event 2 commits 13..14", answer);
     answer = commit(2, 13, 13, BEYUNLAK_RECORD_MAX);
-    trains_flags(0, 9, 15, 1, 13, 13, 2);
+    trains_flags(0, 9, 15, 1, 13, 13, 0, 2);
     gives("P1, then event 2 commits 13..14 and 13..13", answer);
 }
 
@@ -288,14 +298,14 @@ static void narrowing(void)
     trains_record(1, 10, 10, 8, 14, 3);
     gives("10..10, the same window", answer);
     answer = commit(2, 8, 14, BEYUNLAK_RECORD_MAX);
-    trains_flags(1, 10, 10, 1, 8, 14, 4);
+    trains_flags(1, 10, 10, 1, 8, 14, 3, 1);
     gives("the other event, its whole window", answer);
     answer = commit(2, 10, 12, BEYUNLAK_RECORD_MAX);
-    trains_flags(1, 10, 10, 1, 10, 12, 5);
+    trains_flags(1, 10, 10, 1, 10, 12, 3, 2);
     gives("the other event again", answer);
     refuses("13 of the other event", commit(2, 9, 12, BEYUNLAK_RECORD_MAX), BEYUNLAK_WINDOW);
     answer = commit(1, 10, 10, BEYUNLAK_RECORD_MAX);
-    trains_flags(1, 10, 10, 1, 10, 12, 6);
+    trains_flags(1, 10, 10, 1, 10, 12, 4, 2);
     gives("all committed, and the first once more", answer);
 }
 
@@ -325,7 +335,7 @@ static void by_turns(void)
             const uint32_t *w = k ? steps[k - 1].windows[i] : plan_windows[i];
             window(w[0], w[1], w[2]);
         }
-        put(k, 2);
+        counts(0, 0, 0, k, 0);
         sprintf(text, "P4, commitment %u", (unsigned)k);
         if (k)
             gives(text, answer);
@@ -334,66 +344,234 @@ static void by_turns(void)
     }
 }
 
-/* The last number of a record that comes from anywhere is at least the number of flags, and rises by one. */
+/* ---- the counts of the devices */
+
+/* In a record that comes from anywhere a count is at least the number of its device's flags. The owner's rises by one,
+ * whatever the other device's is. */
 static void counting(void)
 {
     static const uint32_t numbers[] = {0, 1, 2, 254, 255, 256, 32767, 32768, 65279, 65533, 65534};
+    static const uint32_t others[] = {0, 1, 256, BEYUNLAK_COUNT_MAX};
     uint32_t answer;
     char text[80];
     for (size_t k = 0; k < sizeof numbers / sizeof *numbers; k++)
-        for (uint32_t flags = 0; flags <= 2; flags++) {
-            const uint32_t first = flags > 0, second = flags > 1, number = numbers[k];
-            trains_flags(first, 5, 10, second, 8, 9, number);
-            answer = commit(1, 10, 10, BEYUNLAK_RECORD_MAX);
-            sprintf(text, "%u flags, number %u", (unsigned)flags, (unsigned)number);
-            if (number < flags) {
-                refuses(text, answer, BEYUNLAK_LAYOUT);
-            } else {
-                trains_flags(1, 10, 10, second, 8, second ? 9 : 14, number + 1);
-                gives(text, answer);
+        for (size_t j = 0; j < sizeof others / sizeof *others; j++)
+            for (uint32_t flags = 0; flags < 4; flags++) {
+                const uint32_t first = flags & 1, second = flags >> 1, camera = numbers[k], lamps = others[j];
+                trains_flags(first, 5, 10, second, 8, 9, camera, lamps);
+                answer = commit(1, 10, 10, BEYUNLAK_RECORD_MAX);
+                sprintf(text, "flags %u and %u, counts %u and %u", (unsigned)first, (unsigned)second, (unsigned)camera,
+                        (unsigned)lamps);
+                if (camera < first || lamps < second) {
+                    refuses(text, answer, BEYUNLAK_LAYOUT);
+                } else {
+                    trains_flags(1, 10, 10, second, 8, second ? 9 : 14, camera + 1, lamps);
+                    gives(text, answer);
+                }
             }
-        }
-    trains_record(1, 5, 10, 8, 9, 0);
-    put(0, 1);
-    refuses("14 the number before 8", commit(1, 6, 6, BEYUNLAK_RECORD_MAX), BEYUNLAK_LAYOUT);
     trains_record(1, 5, 15, 8, 19, 0);
-    refuses("14 the number before 15", commit(0, 6, 6, BEYUNLAK_RECORD_MAX), BEYUNLAK_LAYOUT);
-    trains_record(1, 5, 10, 8, 9, 0);
-    in_len--;
-    refuses("1 the number cut", commit(1, 6, 6, BEYUNLAK_RECORD_MAX), BEYUNLAK_CUT);
-    trains_record(1, 5, 10, 8, 9, 300);
-    put(0, 1);
-    refuses("8 after a number above the flags", commit(1, 6, 6, BEYUNLAK_RECORD_MAX), BEYUNLAK_TRAILING);
+    refuses("14 a count before 15", commit(0, 6, 6, BEYUNLAK_RECORD_MAX), BEYUNLAK_LAYOUT);
 }
 
-/* A record at 65,534 takes one commitment more. At 65,535 whatever would be accepted is 18, and all else as before. */
+/* A device whose count is 65,534 takes one commitment more. At 65,535 whatever would be accepted of its events is 18,
+ * and all else as before. */
 static void count_ends(void)
 {
     uint32_t answer;
-    check("largest number", BEYUNLAK_COUNT_MAX == UINT16_MAX);
+    check("largest count", BEYUNLAK_COUNT_MAX == UINT16_MAX);
     trains_record(1, 5, 10, 8, 9, BEYUNLAK_COUNT_MAX - 1);
     answer = commit(1, 6, 10, BEYUNLAK_RECORD_MAX);
     trains_record(1, 6, 10, 8, 10, BEYUNLAK_COUNT_MAX);
     gives("65,534 and one more", answer);
     refuses("18 narrower", commit(1, 10, 10, BEYUNLAK_RECORD_MAX), BEYUNLAK_COUNT);
     refuses("18 the same window", commit(1, 6, 10, BEYUNLAK_RECORD_MAX), BEYUNLAK_COUNT);
-    refuses("18 a free event", commit(2, 8, 8, BEYUNLAK_RECORD_MAX), BEYUNLAK_COUNT);
     refuses("13 before 18, outside", commit(1, 5, 10, BEYUNLAK_RECORD_MAX), BEYUNLAK_WINDOW);
-    refuses("13 before 18, open above close", commit(2, 9, 8, BEYUNLAK_RECORD_MAX), BEYUNLAK_WINDOW);
+    refuses("13 before 18, open above close", commit(1, 9, 8, BEYUNLAK_RECORD_MAX), BEYUNLAK_WINDOW);
     refuses("11 before 18, event 0", commit(0, 8, 8, BEYUNLAK_RECORD_MAX), BEYUNLAK_EVENT);
     refuses("11 before 18, event n + 1", commit(3, 8, 8, BEYUNLAK_RECORD_MAX), BEYUNLAK_EVENT);
     refuses("10 before 18", commit(1, 10, 10, BEYUNLAK_RECORD_MAX - 1), BEYUNLAK_SHORT);
+    answer = commit(2, 8, 8, BEYUNLAK_RECORD_MAX);
+    trains_flags(1, 6, 10, 1, 8, 8, BEYUNLAK_COUNT_MAX, 1);
+    gives("65,535 of another device", answer);
     put(0, 1);
     refuses("8 before 18", commit(1, 10, 10, BEYUNLAK_RECORD_MAX), BEYUNLAK_TRAILING);
     trains_record(1, 5, 15, 8, 19, BEYUNLAK_COUNT_MAX);
     refuses("15 before 18", commit(1, 10, 10, BEYUNLAK_RECORD_MAX), BEYUNLAK_UNFIT);
-    trains_flags(0, 5, 10, 0, 8, 9, BEYUNLAK_COUNT_MAX);
+    trains_flags(0, 5, 10, 0, 8, 9, BEYUNLAK_COUNT_MAX, 0);
     refuses("18 no flags", commit(1, 10, 10, BEYUNLAK_RECORD_MAX), BEYUNLAK_COUNT);
-    trains_flags(1, 5, 10, 1, 8, 9, BEYUNLAK_COUNT_MAX);
+    trains_flags(1, 5, 10, 1, 8, 9, 1, BEYUNLAK_COUNT_MAX);
     refuses("18 all flags", commit(2, 9, 9, BEYUNLAK_RECORD_MAX), BEYUNLAK_COUNT);
 }
 
-/* From the plan of P1 the same commitment for as long as it is accepted, each time on the record just written. */
+/* A ticket without rules in which every device owns two events, and a record of it in which one event may have a window
+ * of its own. The bits of `flags` are the committed events, the first event's the lowest. */
+static const uint8_t two_each[] = {4, 2, 0, 3, 1, 1, 0, 2, 4, 3};
+static const uint32_t ten = sizeof two_each, all_ten = 1023;
+
+static void devices(uint32_t flags, uint32_t event, uint32_t open, uint32_t close, const uint32_t *numbers)
+{
+    start(9, ten);
+    for (uint32_t i = 0; i < ten; i++)
+        put(two_each[i], 1);
+    put(0, 2);
+    put(ten, 2);
+    for (uint32_t i = 0; i < ten; i++)
+        window(flags >> i & 1, i + 1 == event ? open : 0, i + 1 == event ? close : 9);
+    counts(numbers[0], numbers[1], numbers[2], numbers[3], numbers[4]);
+}
+
+/* Each event raises its owner's count and no other, and is refused with 18 where that is 65,535. */
+static void each_device(void)
+{
+    const uint32_t most = BEYUNLAK_COUNT_MAX;
+    const uint32_t numbers[][BEYUNLAK_DEVICES] = {{0, 0, 0, 0, 0}, {most, 7, 255, 65534, 32768}, {3, most, 9, 256, 1},
+                                                  {65279, 0, most, 12, most}, {1, 2, 3, most, 5}};
+    char text[80];
+    for (size_t k = 0; k < sizeof numbers / sizeof *numbers; k++)
+        for (uint32_t event = 1; event <= ten; event++) {
+            const uint32_t owner = two_each[event - 1];
+            uint32_t after[BEYUNLAK_DEVICES];
+            memcpy(after, numbers[k], sizeof after);
+            after[owner]++;
+            devices(0, 0, 0, 0, numbers[k]);
+            uint32_t answer = commit(event, 3, 4, BEYUNLAK_RECORD_MAX);
+            sprintf(text, "event %u of device %u, counts %u", (unsigned)event, (unsigned)owner, (unsigned)k);
+            if (numbers[k][owner] == most) {
+                refuses(text, answer, BEYUNLAK_COUNT);
+            } else {
+                devices(1u << (event - 1), event, 3, 4, after);
+                gives(text, answer);
+            }
+        }
+}
+
+/* A run from counts of any value, each commitment on the last record: after every accepted one the count of the event's
+ * owner is one higher and the others are as they were; the refused ones count nowhere. */
+static void count_run(void)
+{
+    uint32_t numbers[BEYUNLAK_DEVICES] = {5, 0, 300, 7, BEYUNLAK_COUNT_MAX - 2}, flags = 0;
+    char text[80];
+    devices(flags, 0, 0, 0, numbers);
+    for (uint32_t k = 0; k < 60; k++) {
+        const uint32_t event = 7 * k % (ten + 2), close = k % 5 == 3 ? 10 : 9;
+        const uint32_t answer = commit(event, 0, close, BEYUNLAK_RECORD_MAX);
+        sprintf(text, "commitment %u of a run", (unsigned)k);
+        if (event == 0 || event > ten) {
+            refuses(text, answer, BEYUNLAK_EVENT);
+        } else if (close == 10) {
+            refuses(text, answer, BEYUNLAK_WINDOW);
+        } else if (numbers[two_each[event - 1]] == BEYUNLAK_COUNT_MAX) {
+            refuses(text, answer, BEYUNLAK_COUNT);
+        } else {
+            flags |= 1u << (event - 1);
+            numbers[two_each[event - 1]]++;
+            devices(flags, 0, 0, 0, numbers);
+            gives(text, answer);
+        }
+    }
+}
+
+/* A count is tested against its device's flags, whatever the others are. */
+static void each_count(void)
+{
+    const uint32_t both[BEYUNLAK_DEVICES] = {2, 2, 2, 2, 2}, more[BEYUNLAK_DEVICES] = {2, 2, 2, 2, 3};
+    char text[80];
+    devices(all_ten, 0, 0, 0, both);
+    uint32_t answer = commit(1, 5, 6, BEYUNLAK_RECORD_MAX);
+    devices(all_ten, 1, 5, 6, more);
+    gives("all flags", answer);
+    for (uint32_t device = 0; device < BEYUNLAK_DEVICES; device++) {
+        uint32_t flags = 0, low[BEYUNLAK_DEVICES] = {9, 9, 9, 9, 9}, own[BEYUNLAK_DEVICES] = {0};
+        low[device] = 1;
+        devices(all_ten, 0, 0, 0, low);
+        sprintf(text, "14 all flags, device %u at 1", (unsigned)device);
+        refuses(text, commit(1, 5, 6, BEYUNLAK_RECORD_MAX), BEYUNLAK_LAYOUT);
+        for (uint32_t i = 0; i < ten; i++)
+            flags |= (uint32_t)(two_each[i] == device) << i;
+        own[device] = 2;
+        devices(flags, 0, 0, 0, own);
+        answer = commit(2, 5, 6, BEYUNLAK_RECORD_MAX);
+        own[two_each[1]]++;
+        devices(flags | 2, 2, 5, 6, own);
+        sprintf(text, "the flags of device %u alone", (unsigned)device);
+        gives(text, answer);
+    }
+}
+
+/* The bytes from this length down to that one: 14 where the field that ends at `wrong` is there, else 1. */
+static void cuts(const char *name, size_t from, size_t to, size_t wrong)
+{
+    char text[80];
+    for (in_len = from; in_len >= to; in_len--) {
+        const uint32_t wanted = in_len < wrong ? BEYUNLAK_CUT : BEYUNLAK_LAYOUT;
+        sprintf(text, "%u %s, %u bytes", (unsigned)wanted, name, (unsigned)in_len);
+        refuses(text, commit(1, 5, 6, BEYUNLAK_RECORD_MAX), wanted);
+    }
+}
+
+/* The fields at the end of a record: where the bytes end inside one it is 1; a wrong number of devices or a count that
+ * is too low is 14 as soon as it is there, also where bytes follow the record. */
+static void count_fields(void)
+{
+    const uint32_t both[BEYUNLAK_DEVICES] = {2, 2, 2, 2, 2}, wrong[] = {0, 1, 4, 6, 10, 261, 1280, 65535};
+    const size_t end = BEYUNLAK_RECORD_LENGTH(10, 0), first = end - 2 * BEYUNLAK_DEVICES;
+    char text[80];
+    devices(all_ten, 0, 0, 0, both);
+    check("ten events", in_len == end && end == 122);
+    cuts("counts", end - 1, first - 2, end);
+    devices(all_ten, 0, 0, 0, both);
+    put(0, 1);
+    refuses("8", commit(1, 5, 6, BEYUNLAK_RECORD_MAX), BEYUNLAK_TRAILING);
+    for (uint32_t device = 0; device < BEYUNLAK_DEVICES; device++) {
+        uint32_t low[BEYUNLAK_DEVICES] = {2, 2, 2, 2, 2};
+        low[device] = 1;
+        devices(all_ten, 0, 0, 0, low);
+        put(0, 1);
+        sprintf(text, "device %u at 1", (unsigned)device);
+        cuts(text, end + 1, first, first + 2 * device + 2);
+    }
+    for (size_t k = 0; k < sizeof wrong / sizeof *wrong; k++) {
+        devices(all_ten, 0, 0, 0, both);
+        put(0, 1);
+        in[first - 2] = (uint8_t)wrong[k];
+        in[first - 1] = (uint8_t)(wrong[k] >> 8);
+        sprintf(text, "%u devices", (unsigned)wrong[k]);
+        cuts(text, end + 1, first - 1, first);
+    }
+}
+
+/* Records of the former layout, with one number for all devices. */
+static void former_layout(void)
+{
+    char text[80];
+    for (uint32_t number = 0; number <= 10; number++) {
+        trains();
+        put(2, 2);
+        window(number > 0, 5, 10);
+        window(number > 1, 8, 9);
+        put(number, 2);
+        sprintf(text, "the former layout, number %u", (unsigned)number);
+        refuses(text, commit(1, 10, 10, BEYUNLAK_RECORD_MAX), number == 5 ? BEYUNLAK_CUT : BEYUNLAK_LAYOUT);
+    }
+}
+
+/* Outputs that are too short for the longest record, though this one is shorter. */
+static void output_lengths(void)
+{
+    char text[80];
+    for (size_t length = 0; length < BEYUNLAK_RECORD_MAX; length += length < 1940 ? 97 : 1) {
+        trains();
+        sprintf(text, "10, an output of %u bytes", (unsigned)length);
+        refuses(text, plan(length), BEYUNLAK_SHORT);
+        fill();
+        refuses(text, beyunlak_plan_latest(in, in_len, out, length), BEYUNLAK_SHORT);
+        trains_record(0, 5, 10, 8, 9, 0);
+        refuses(text, commit(1, 10, 10, length), BEYUNLAK_SHORT);
+    }
+}
+
+/* From the plan of P1 the same commitment for as long as it is accepted, each time on the record just written; and then
+ * one of the other device. */
 static void count_whole(void)
 {
     uint32_t answer, accepted = 0;
@@ -408,6 +586,9 @@ static void count_whole(void)
     check("18 after 65,535 commitments", answer == BEYUNLAK_COUNT && accepted == BEYUNLAK_COUNT_MAX);
     trains_record(1, 5, 10, 8, 9, BEYUNLAK_COUNT_MAX);
     check("the record after 65,535 commitments", memcmp(out, in, in_len) == 0);
+    answer = commit(2, 8, 9, BEYUNLAK_RECORD_MAX);
+    trains_flags(1, 5, 10, 1, 8, 9, BEYUNLAK_COUNT_MAX, 1);
+    gives("another device after 65,535 commitments", answer);
 }
 
 /* The longest ticket: 40 events, 256 rules. */
@@ -428,21 +609,21 @@ static void longest_record(uint32_t open, uint32_t close, uint32_t count)
     for (int i = 1; i < BEYUNLAK_EVENTS_MAX; i++)
         window(1, 0, BEYUNLAK_HORIZON_MAX);
     window(1, open, close);
-    put(count, 2);
+    counts(0, 0, 0, 0, count);
 }
 
 static void longest_again(void)
 {
     uint32_t answer;
     longest_record(0, BEYUNLAK_HORIZON_MAX, 39);
-    refuses("14 forty flags, number 39", commit(40, 7, 70000, BEYUNLAK_RECORD_MAX), BEYUNLAK_LAYOUT);
+    refuses("14 forty flags, count 39", commit(40, 7, 70000, BEYUNLAK_RECORD_MAX), BEYUNLAK_LAYOUT);
     longest_record(0, BEYUNLAK_HORIZON_MAX, 40);
     answer = commit(40, 7, 70000, BEYUNLAK_RECORD_MAX);
     longest_record(7, 70000, 41);
-    gives("forty flags, number 40", answer);
+    gives("forty flags, count 40", answer);
     answer = commit(40, 70000, 70000, BEYUNLAK_RECORD_MAX);
     longest_record(70000, 70000, 42);
-    gives("forty flags, number 41", answer);
+    gives("forty flags, count 41", answer);
 }
 
 /* The plan of the longest ticket. */
@@ -455,7 +636,7 @@ static void longest(void)
     put(BEYUNLAK_EVENTS_MAX, 2);
     for (int i = 0; i < BEYUNLAK_EVENTS_MAX; i++)
         window(0, 0, BEYUNLAK_HORIZON_MAX);
-    put(0, 2);
+    counts(0, 0, 0, 0, 0);
     check("longest record", in_len == BEYUNLAK_RECORD_MAX && in_len == BEYUNLAK_RECORD_LENGTH(40, 256));
     gives("plan of the longest ticket", answer);
 }
@@ -518,7 +699,7 @@ static void layout(void)
     check("offset of bound", offsetof(struct beyunlak_rule, bound) == 4);
     check("size of a rule", sizeof(struct beyunlak_rule) == 8);
     check("the number that is not answered", BEYUNLAK_COMMITTED == 12);
-    check("the last number", BEYUNLAK_COUNT == 18);
+    check("the number of a count that cannot rise", BEYUNLAK_COUNT == 18);
 }
 
 static void table_answers(void)
@@ -952,11 +1133,18 @@ int main(int count, char **words)
     of = "again: ";
     narrowing();
     by_turns();
+    longest_again();
+    of = "counts: ";
     counting();
     count_ends();
+    each_device();
+    count_run();
+    each_count();
+    count_fields();
+    former_layout();
+    output_lengths();
     if (count == 1)
         count_whole();
-    longest_again();
     of = "";
     layout();
     table_answers();

@@ -215,27 +215,54 @@ tells stops 'wide numbers' examples/tickets/p7.txt 'stops 0/0 1/2 0/stops 1/0 10
 
 # shown NAME TAIL WANTED: the last lines for P1's ticket with these bytes after it; / stands for a line end
 shown() {
-    { cat examples/tickets/p1.ticket; bytes "$2"; } | tools/ticket show 2>&1 | tail -n 3 >"$work/got"
+    { cat examples/tickets/p1.ticket; bytes "$2"; } | tools/ticket show 2>&1 | tail -n 9 >"$work/got"
     printf '%s\n' "$3" | tr '/' '\n' >"$work/wanted"
     same "show a record, $1" "$work/wanted" "$work/got"
 }
+# counted COUNT..: how the five counts are shown
+counted() { printf '/# accepted commitments of each device/#   camera       %s/#   filter-wheel %s/#   lamps        %s/#   stage        %s/#   database     %s' "$@"; }
 p1_free='0200 00 05000000 0a000000 00 08000000 09000000'
 p1_one='0200 01 0a000000 0a000000 00 08000000 0e000000'
 p1_both='0200 01 0a000000 0a000000 01 0a000000 0c000000'
-one_shown='# window e1 10..10 committed/# window e2 8..14 free/# committed events 1, accepted commitments'
-shown 'a plan' "$p1_free 0000" '# window e1 5..10 free/# window e2 8..9 free/# committed events 0, accepted commitments 0, sum of the widths 6'
-shown 'no flags, number 1' "$p1_free 0100" '# window e1 5..10 free/# window e2 8..9 free/# committed events 0, accepted commitments 1, sum of the widths 6'
-shown 'one flag, number 1' "$p1_one 0100" "$one_shown 1, sum of the widths 6"
-shown 'one flag, number 2' "$p1_one 0200" "$one_shown 2, sum of the widths 6"
-shown 'one flag, number 256' "$p1_one 0001" "$one_shown 256, sum of the widths 6"
-shown 'one flag, number 65,535' "$p1_one ffff" "$one_shown 65535, sum of the widths 6"
-shown 'two flags, number 2' "$p1_both 0200" '# window e1 10..10 committed/# window e2 10..12 committed/# committed events 2, accepted commitments 2, sum of the widths 2'
-no_record="refused 14: the record's count, a flag, a window or the last number breaks the layout (byte"
-shown 'one flag, number 0' "$p1_one 0000" "$no_record 66)"
-shown 'two flags, number 1' "$p1_both 0100" "$no_record 66)"
-shown 'a flag of 2' '0200 02 05000000 0a000000 00 08000000 09000000 0000' "$no_record 48)"
-shown 'a byte more' "$p1_one 0200 00" 'refused 8: bytes follow the end (byte 68)'
-shown 'a byte less' "$p1_one 02" 'refused 1: the bytes end inside a field (byte 66)'
+free_shown='# window e1 5..10 free/# window e2 8..9 free/# committed events 0, sum of the widths 6'
+one_shown='# window e1 10..10 committed/# window e2 8..14 free/# committed events 1, sum of the widths 6'
+both_shown='# window e1 10..10 committed/# window e2 10..12 committed/# committed events 2, sum of the widths 2'
+shown 'a plan' "$p1_free 0500 0000 0000 0000 0000 0000" "$free_shown$(counted 0 0 0 0 0)"
+shown 'no flags, counts from elsewhere' "$p1_free 0500 0100 0200 0300 0400 0500" "$free_shown$(counted 1 2 3 4 5)"
+shown 'one flag, its count 1' "$p1_one 0500 0100 0000 0000 0000 0000" "$one_shown$(counted 1 0 0 0 0)"
+shown 'one flag, its count 256' "$p1_one 0500 0001 0000 0c00 0000 0000" "$one_shown$(counted 256 '  0' ' 12' '  0' '  0')"
+shown 'one flag, counts up to 65,535' "$p1_one 0500 ffff feff 0080 ffff ff00" "$one_shown$(counted 65535 65534 32768 65535 '  255')"
+shown 'two flags, counts 1' "$p1_both 0500 0100 0000 0100 0000 0000" "$both_shown$(counted 1 0 1 0 0)"
+shown 'two flags, counts 2 and 1' "$p1_both 0500 0200 0000 0100 0000 0000" "$both_shown$(counted 2 0 1 0 0)"
+no_record="refused 14: the record's number of events or devices, a flag, a window or a device's count breaks the layout (byte"
+cut='refused 1: the bytes end inside a field (byte'
+shown 'another number of events' '0300 00 05000000 0a000000 00 08000000 09000000 0500 0000 0000 0000 0000 0000' "$no_record 46)"
+shown 'a flag of 2' '0200 02 05000000 0a000000 00 08000000 09000000 0500 0000 0000 0000 0000 0000' "$no_record 48)"
+shown 'one flag, its count 0' "$p1_one 0500 0000 0900 0900 0900 0900" "$no_record 68)"
+shown 'one flag, its count 0, the next cut off' "$p1_one 0500 0000 01" "$no_record 68)"
+shown 'one flag, its count 0, a byte more' "$p1_one 0500 0000 0000 0000 0000 0000 00" "$no_record 68)"
+shown 'two flags, the first count 0' "$p1_both 0500 0000 0000 0200 0000 0000" "$no_record 68)"
+shown 'two flags, the second count 0' "$p1_both 0500 0200 0000 0000 0000 0000" "$no_record 72)"
+shown '0 devices' "$p1_free 0000 0000 0000 0000 0000 0000" "$no_record 66)"
+shown '4 devices' "$p1_free 0400 0000 0000 0000 0000" "$no_record 66)"
+shown '6 devices' "$p1_free 0600 0000 0000 0000 0000 0000 0000" "$no_record 66)"
+shown '261 devices' "$p1_free 0501 0000 0000 0000 0000 0000" "$no_record 66)"
+shown 'a byte more' "$p1_one 0500 0200 0000 0000 0000 0000 00" 'refused 8: bytes follow the end (byte 78)'
+shown 'no number of devices' "$p1_one" "$cut 66)"
+shown 'the number of devices cut' "$p1_one 05" "$cut 66)"
+shown 'the first count cut' "$p1_one 0500 01" "$cut 68)"
+shown 'no second count' "$p1_one 0500 0100" "$cut 70)"
+shown 'a byte less' "$p1_one 0500 0100 0000 0000 0000 00" "$cut 76)"
+# records of the former layout: its one number is taken for the number of devices
+former='; the bytes end as in the former layout, with one number for all devices)'
+shown 'the former layout, a plan' "$p1_free 0000" "$no_record 66$former"
+shown 'the former layout, two commitments' "$p1_one 0200" "$no_record 66$former"
+shown 'the former layout, 261 commitments' "$p1_one 0501" "$no_record 66$former"
+shown 'the former layout, five commitments' "$p1_one 0500" "$cut 68$former"
+bytes '00000000 0000 0000 0000 0000' | tools/ticket show >"$work/got" 2>&1
+good $(($? != 1)) 'show a record of the former layout without events: exit status'
+echo "$no_record 10$former" >"$work/wanted"
+same 'show a record of the former layout without events' "$work/wanted" "$work/got"
 
 # ---- commitments in the text tool
 
@@ -286,21 +313,23 @@ tools/ticket by "$work/none.txt" 'shutter 6..10' >"$work/got" 2>"$work/errors"
 if [ $? -eq 1 ] && [ ! -s "$work/got" ] && [ -s "$work/errors" ]; then pass; else fail 'by without a text'; fi
 
 # what examples/commit.c writes for the commitments of docs/TEXT-FORM.md, and with names
-p1_plan='record 0 6/1 0 5 10/2 0 8 9'
-p1_twice="$p1_plan/commit 1 6 10/record 1 6/1 1 6 10/2 0 8 10/commit 1 10 10/record 2 6/1 1 10 10/2 0 8 14"
-p1_run="$p1_twice/commit 1 9 9/refused 13/commit 2 10 12/record 3 2/1 1 10 10/2 1 10 12"
-p1_plan_told='plan: 0 accepted, total 6/  shutter  5..10/  flash    8..9'
-p1_twice_told="$p1_plan_told/shutter commits 6..10: 1 accepted, total 6/  shutter  6..10 committed/  flash    8..10/shutter commits 10..10: 2 accepted, total 6/  shutter 10..10 committed/  flash    8..14"
+p1_plan='record 6 0 0 0 0 0/1 0 5 10/2 0 8 9'
+p1_twice="$p1_plan/commit 1 6 10/record 6 1 0 0 0 0/1 1 6 10/2 0 8 10/commit 1 10 10/record 6 2 0 0 0 0/1 1 10 10/2 0 8 14"
+p1_run="$p1_twice/commit 1 9 9/refused 13/commit 2 10 12/record 2 2 0 1 0 0/1 1 10 10/2 1 10 12"
+p1_plan_told='plan: total 6, none accepted/  shutter  5..10/  flash    8..9'
+p1_twice_told="$p1_plan_told/shutter commits 6..10: total 6, accepted camera 1/  shutter  6..10 committed/  flash    8..10/shutter commits 10..10: total 6, accepted camera 2/  shutter 10..10 committed/  flash    8..14"
 p1_outside="refused 13: the open is above the close, or they are not inside the event's window"
-p1_run_told="$p1_twice_told/shutter commits 9..9: $p1_outside/flash commits 10..12: 3 accepted, total 2/  shutter 10..10 committed/  flash   10..12 committed"
+p1_run_told="$p1_twice_told/shutter commits 9..9: $p1_outside/flash commits 10..12: total 2, accepted camera 2, lamps 1/  shutter 10..10 committed/  flash   10..12 committed"
 tells commits 'P1' $p1 "$p1_run" "$p1_run_told" 0
-tells commits 'a plan alone' $p1 "$p1_plan" 'plan: 0 accepted, total 6/  shutter 5..10/  flash   8..9' 0
-tells commits 'no events' examples/tickets/p8.txt 'record 0 0/commit 1 0 0/refused 11' 'plan: 0 accepted, total 0/event 1 commits 0..0: refused 11: there is no such event to commit' 0
+tells commits 'a plan alone' $p1 "$p1_plan" 'plan: total 6, none accepted/  shutter 5..10/  flash   8..9' 0
+tells commits 'no events' examples/tickets/p8.txt 'record 0 0 0 0 0 0/commit 1 0 0/refused 11' 'plan: total 0, none accepted/event 1 commits 0..0: refused 11: there is no such event to commit' 0
 tells commits 'the start, and numbers that no event has' $p1 "$p1_plan/commit 0 0 0/refused 11/commit 3 0 0/refused 11" \
-    'plan: 0 accepted, total 6/  shutter 5..10/  flash   8..9/event 0 commits 0..0: refused 11: there is no such event to commit/event 3 commits 0..0: refused 11: there is no such event to commit' 0
-tells commits '18' $p1 'record 65535 5/1 1 5 10/2 0 8 8/commit 1 5 10/refused 18' \
-    "plan: 65535 accepted, total 5/  shutter 5..10 committed/  flash   8..8/shutter commits 5..10: refused 18: the record's number of accepted commitments is 65,535 and cannot rise" 0
-tells commits 'closes of two lengths' $p1 'record 0 6/1 1 5 10/2 1 8 9' 'plan: 0 accepted, total 6/  shutter 5..10 committed/  flash   8..9  committed' 0
+    'plan: total 6, none accepted/  shutter 5..10/  flash   8..9/event 0 commits 0..0: refused 11: there is no such event to commit/event 3 commits 0..0: refused 11: there is no such event to commit' 0
+tells commits 'each device' $p1 'record 6 1 2 3 4 5/1 0 5 10/2 0 8 9' \
+    'plan: total 6, accepted camera 1, filter-wheel 2, lamps 3, stage 4, database 5/  shutter 5..10/  flash   8..9' 0
+tells commits '18' $p1 'record 5 65535 0 0 0 0/1 1 5 10/2 0 8 8/commit 1 5 10/refused 18' \
+    "plan: total 5, accepted camera 65535/  shutter 5..10 committed/  flash   8..8/shutter commits 5..10: refused 18: the count of accepted commitments of the event's owner is 65,535 and cannot rise" 0
+tells commits 'closes of two lengths' $p1 'record 6 0 0 0 0 0/1 1 5 10/2 1 8 9' 'plan: total 6, none accepted/  shutter 5..10 committed/  flash   8..9  committed' 0
 tells commits 'refused' $p1 'refused 9' 'refused 9: no times keep all rules' 1
 
 # no_run NAME LINES: the lines are no run on the plan of P1
@@ -313,13 +342,16 @@ no_run() {
 }
 no_run 'nothing' ''
 no_run 'a plan of the program' 'plan 2 6/1 0 5 10/2 2 8 9'
-no_run 'a window missing' 'record 0 6/1 0 5 10'
+no_run 'a window missing' 'record 6 0 0 0 0 0/1 0 5 10'
 no_run 'a window too many' "$p1_plan/3 0 5 5"
-no_run 'windows in another order' 'record 0 6/2 0 8 9/1 0 5 10'
-no_run 'a flag of 2' 'record 0 6/1 2 5 10/2 0 8 9'
-no_run 'a word in it' 'record 0 6/1 0 five 10/2 0 8 9'
-no_run 'no total' 'record 0/1 0 5 10/2 0 8 9'
-no_run 'no plan' 'commit 1 6 10/record 1 6/1 1 6 10/2 0 8 10'
+no_run 'windows in another order' 'record 6 0 0 0 0 0/2 0 8 9/1 0 5 10'
+no_run 'a flag of 2' 'record 6 0 0 0 0 0/1 2 5 10/2 0 8 9'
+no_run 'a word in it' 'record 6 0 0 0 0 0/1 0 five 10/2 0 8 9'
+no_run 'a count missing' 'record 6 0 0 0 0/1 0 5 10/2 0 8 9'
+no_run 'a count too many' 'record 6 0 0 0 0 0 0/1 0 5 10/2 0 8 9'
+no_run 'a count that is a word' 'record 6 0 0 one 0 0/1 0 5 10/2 0 8 9'
+no_run 'one number for all devices' 'record 0 6/1 0 5 10/2 0 8 9'
+no_run 'no plan' 'commit 1 6 10/record 6 1 0 0 0 0/1 1 6 10/2 0 8 10'
 no_run 'two plans' "$p1_plan/$p1_plan"
 no_run 'no answer' "$p1_plan/commit 1 6 10"
 no_run 'no answer to the first' "$p1_plan/commit 1 6 10/commit 1 6 10/refused 13"
@@ -547,18 +579,19 @@ TABLES
 p1 | | $p1_plan
 p1 | 1 6 10 1 10 10 1 9 9 2 10 12 | $p1_run
 p1 | 01 006 10 1 10 10 | $p1_twice
-p1 | 1 10 10 1 10 10 | $p1_plan/commit 1 10 10/record 1 6/1 1 10 10/2 0 8 14/commit 1 10 10/record 2 6/1 1 10 10/2 0 8 14
+p1 | 1 10 10 1 10 10 | $p1_plan/commit 1 10 10/record 6 1 0 0 0 0/1 1 10 10/2 0 8 14/commit 1 10 10/record 6 2 0 0 0 0/1 1 10 10/2 0 8 14
+p1 | 2 8 9 1 5 10 2 8 9 | $p1_plan/commit 2 8 9/record 6 0 0 1 0 0/1 0 5 10/2 1 8 9/commit 1 5 10/record 6 1 0 1 0 0/1 1 5 10/2 1 8 9/commit 2 8 9/record 6 1 0 2 0 0/1 1 5 10/2 1 8 9
 p1 | 0 5 5 3 5 5 4294967295 0 0 | $p1_plan/commit 0 5 5/refused 11/commit 3 5 5/refused 11/commit 4294967295 0 0/refused 11
 p1 | 1 7 6 1 4 10 2 8 4294967295 | $p1_plan/commit 1 7 6/refused 13/commit 1 4 10/refused 13/commit 2 8 4294967295/refused 13
-p4 | 1 2 5 2 1 2 1 4 5 2 2 2 | record 0 5/1 0 0 5/2 0 0 0/3 0 0 0/commit 1 2 5/record 1 5/1 1 2 5/2 0 0 2/3 0 0 0/commit 2 1 2/record 2 5/1 1 2 5/2 1 1 2/3 0 0 1/commit 1 4 5/record 3 3/1 1 4 5/2 1 1 2/3 0 0 1/commit 2 2 2/record 4 3/1 1 4 5/2 1 2 2/3 0 0 2
+p4 | 1 2 5 2 1 2 1 4 5 2 2 2 | record 5 0 0 0 0 0/1 0 0 5/2 0 0 0/3 0 0 0/commit 1 2 5/record 5 0 0 0 1 0/1 1 2 5/2 0 0 2/3 0 0 0/commit 2 1 2/record 5 0 0 0 2 0/1 1 2 5/2 1 1 2/3 0 0 1/commit 1 4 5/record 3 0 0 0 3 0/1 1 4 5/2 1 1 2/3 0 0 1/commit 2 2 2/record 3 0 0 0 4 0/1 1 4 5/2 1 2 2/3 0 0 2
 p7-impossible | 1 10 10 | refused 9
-p8 | 1 0 0 | record 0 0/commit 1 0 0/refused 11
+p8 | 1 0 0 | record 0 0 0 0 0 0/commit 1 0 0/refused 11
 p9 | | refused 1
 RUNS
     # before any commitment it prints the program's plan
     for ticket in examples/tickets/*.ticket; do
         "$planner" <"$ticket" | awk '$1 == "plan" { print $3; next } $1 != "refused" { $2 = "" } { print }' | tr -s ' ' >"$work/wanted"
-        "$work/commit" <"$ticket" | awk '$1 == "record" { print $3; next } $1 != "refused" { $2 = "" } { print }' | tr -s ' ' >"$work/got"
+        "$work/commit" <"$ticket" | awk '$1 == "record" { print $2; next } $1 != "refused" { $2 = "" } { print }' | tr -s ' ' >"$work/got"
         same "the plan of $ticket before commitments, with $compiler" "$work/wanted" "$work/got"
     done
     for words in 1 '1 6' '1 6 10 1' '1 6 10 1 10' 'shutter 6 10' '1 6..10' '1 -6 10' '1 +6 10' '1 6 10x' '1 6 0xa' '1 6 4294967296' '1 6 18446744073709551626' -h; do
@@ -575,7 +608,7 @@ RUNS
         same "reason of $name, with $compiler" "$work/wanted" "$work/got"
     done <"$work/reasons"
 done
-printf '#include "beyunlak.h"\nint main() { return BEYUNLAK_RECORD_MAX == 1948 ? 0 : 1; }\n' >"$work/host.cpp"
+printf '#include "beyunlak.h"\nint main() { return BEYUNLAK_RECORD_MAX == 1958 && BEYUNLAK_DEVICES == 5 ? 0 : 1; }\n' >"$work/host.cpp"
 g++ -Wall -Wextra -Werror -pedantic -Iinclude "$work/host.cpp" -o "$work/cpp" && "$work/cpp"
 good $? 'beyunlak.h in C++'
 cat >"$work/host.cpp" <<'HOST'
@@ -608,6 +641,71 @@ int main() {
 HOST
 g++ -Wall -Wextra -Werror -pedantic -Iinclude "$work/host.cpp" "$library" -o "$work/cpp" && "$work/cpp"
 good $? 'beyunlak_table_after in C++'
+
+# the bytes of a record: plans the ticket on standard input and makes the commitments that the words say
+cat >"$work/record.c" <<'HOST'
+#include <stdio.h>
+#include <stdlib.h>
+#include <string.h>
+#include "beyunlak.h"
+int main(int count, char **words) {
+    static uint8_t in[BEYUNLAK_RECORD_MAX], out[BEYUNLAK_RECORD_MAX];
+    uint32_t answer = beyunlak_plan(in, fread(in, 1, sizeof in, stdin), out, sizeof out);
+    size_t length = BEYUNLAK_RECORD_LENGTH(in[4], in[6 + in[4]] + 256 * in[7 + in[4]]);
+    for (int i = 1; answer == BEYUNLAK_ACCEPTED && i + 2 < count; i += 3) {
+        memcpy(in, out, length);
+        answer = beyunlak_commit(in, length, (uint32_t)atoi(words[i]), (uint32_t)atoi(words[i + 1]), (uint32_t)atoi(words[i + 2]), out, sizeof out);
+    }
+    if (answer == BEYUNLAK_ACCEPTED) fwrite(out, 1, length, stdout);
+    return (int)answer;
+}
+HOST
+gcc -std=c99 -Wall -Wextra -Werror -pedantic -Iinclude "$work/record.c" "$library" -o "$work/record"
+good $? 'a host that writes records'
+
+# written NAME TICKET WORDS LENGTH WANTED: how the record after these commitments is shown: its length, and the lines below the ticket
+written() {
+    # shellcheck disable=SC2086
+    "$work/record" $3 <"$2" >"$work/made"
+    good $? "commitments on $1: $3"
+    tools/ticket show "$work/made" >"$work/shown"
+    { head -n 1 "$work/shown"; sed -n '/^# window/,$p' "$work/shown"; } >"$work/got"
+    printf '# record, %s bytes/%s\n' "$4" "$5" | tr '/' '\n' >"$work/wanted"
+    same "show the record after commitments on $1: $3" "$work/wanted" "$work/got"
+    tools/ticket encode "$work/shown" "$work/again"
+    same "the ticket of the record after commitments on $1: $3" "$2" "$work/again"
+}
+written P1 examples/tickets/p1.ticket '' 78 "$free_shown$(counted 0 0 0 0 0)"
+written P1 examples/tickets/p1.ticket '1 6 10 1 10 10 2 10 12' 78 "$both_shown$(counted 2 0 1 0 0)"
+bytes '09000000 0500 00 01 02 03 04 0000' >"$work/each"
+written 'a ticket of every device' "$work/each" '5 3 4 2 0 9 5 4 4 3 1 1 5 4 4' 72 \
+    "# window e1 0..9 free/# window e2 0..9 committed/# window e3 1..1 committed/# window e4 0..9 free/# window e5 4..4 committed/# committed events 3, sum of the widths 27$(counted 0 1 1 0 3)"
+# where events of the session's plan commit to their whole windows, nothing can grow
+written 'the session' examples/tickets/session.ticket '4 590 590 1 30 200 4 590 590 8 710 850 9 710 710 6 645 645 8 710 850 4 590 590' 208 \
+    "# window e1 30..200 committed/# window e2 15..585 free/# window e3 110..540 free/# window e4 590..590 committed/# window e5 630..740 free/# window e6 645..645 committed/# window e7 650..650 free/# window e8 710..850 committed/# window e9 710..710 committed/# committed events 5, sum of the widths 1420$(counted 3 1 1 1 2)"
+
+# sized NAME SCRIPT WORD..: what an example host prints for P1 after this change to the length of its outputs
+sized() {
+    sed "$2" "examples/$1.c" >"$work/sized.c"
+    gcc -std=c99 -Wall -Wextra -Werror -pedantic -Iinclude "$work/sized.c" "$library" -o "$work/sized"
+    good $? "examples/$1.c with '$2'"
+    shift 2
+    "$work/sized" "$@" <examples/tickets/p1.ticket >"$work/got"
+}
+sized host 's/BEYUNLAK_RECORD_MAX/1958/'
+same 'examples/host.c, outputs of 1,958 bytes' examples/host.expected "$work/got"
+sized host 's/BEYUNLAK_RECORD_MAX/1957/'
+echo 'planning refused: 10, output too short' >"$work/wanted"
+same 'examples/host.c, outputs of 1,957 bytes' "$work/wanted" "$work/got"
+sized host 's/next.BEYUNLAK_RECORD_MAX/next[1957/'
+{ head -n 4 examples/host.expected; echo 'event 1 at 6..10 refused: 10, output too short'; } >"$work/wanted"
+same 'examples/host.c, one output of 1,957 bytes' "$work/wanted" "$work/got"
+sized commit 's/BEYUNLAK_RECORD_MAX/1958/' 1 6 10 1 10 10 1 9 9 2 10 12
+printf '%s\n' "$p1_run" | tr '/' '\n' >"$work/wanted"
+same 'examples/commit.c, outputs of 1,958 bytes' "$work/wanted" "$work/got"
+sized commit 's/^ *BEYUNLAK_RECORD_MAX/1957/' 2 8 9 1 10 10
+printf '%s\n' "$p1_plan/commit 2 8 9/refused 10/commit 1 10 10/refused 10" | tr '/' '\n' >"$work/wanted"
+same 'examples/commit.c, commitments with outputs of 1,957 bytes' "$work/wanted" "$work/got"
 
 # a ticket is refused with 9 exactly where it has a ring, and has a plan where the reason is 17
 while IFS='|' read -r number name wanted; do
@@ -677,17 +775,17 @@ done
 
 # the ticket of README.md, before its fifth line comes
 head -n 4 "$work/my.txt" >"$work/first.txt"
-first_told='plan: 0 accepted, total 150/  lamps-on   0..0/  exposure  50..200/exposure commits 100..150: 1 accepted, total 100/  lamps-on   0..50/  exposure 100..150 committed/exposure commits 120..120: 2 accepted, total 70/  lamps-on   0..70/  exposure 120..120 committed'
-first_by='exposure 10s..15s, exposure 12s..12s'
+first_told='plan: total 150, none accepted/  lamps-on   0..0/  exposure  50..200/exposure commits 100..150: total 100, accepted camera 1/  lamps-on   0..50/  exposure 100..150 committed/exposure commits 120..120: total 70, accepted camera 2/  lamps-on   0..70/  exposure 120..120 committed/lamps-on commits 20..20: total 0, accepted camera 2, lamps 1/  lamps-on  20..20  committed/  exposure 120..120 committed'
+first_by='exposure 10s..15s, exposure 12s..12s, lamps-on 2s..2s'
 p1_by='shutter 6..10, shutter 1s..1s, shutter 9..9, flash 10..12'
 makes commit 'no ticket named' "$p1_twice_told" 0
 makes commit 'docs/TEXT-FORM.md' "$p1_run_told" 0 BY="$p1_by"
 makes commit 'README' "$first_told" 0 TICKET="$work/first.txt" BY="$first_by"
-makes commit 'nothing' 'plan: 0 accepted, total 6/  shutter 5..10/  flash   8..9' 0 BY=
-makes commit 'no events' 'plan: 0 accepted, total 0' 0 TICKET=examples/tickets/p8.txt BY=
-makes commit 'the same window' 'plan: 0 accepted, total 0/  last 10..10/last commits 10..10: 1 accepted, total 0/  last 10..10 committed/last commits 10..10: 2 accepted, total 0/  last 10..10 committed' 0 \
+makes commit 'nothing' 'plan: total 6, none accepted/  shutter 5..10/  flash   8..9' 0 BY=
+makes commit 'no events' 'plan: total 0, none accepted' 0 TICKET=examples/tickets/p8.txt BY=
+makes commit 'the same window' 'plan: total 0, none accepted/  last 10..10/last commits 10..10: total 0, accepted stage 1/  last 10..10 committed/last commits 10..10: total 0, accepted stage 2/  last 10..10 committed' 0 \
     TICKET=examples/tickets/p7.txt BY='last 10..10, last 10..10'
-makes commit 'all refused' "plan: 0 accepted, total 0/  last 10..10/last commits 9..10: $p1_outside" 0 TICKET=examples/tickets/p7.txt BY='last 9..10'
+makes commit 'all refused' "plan: total 0, none accepted/  last 10..10/last commits 9..10: $p1_outside" 0 TICKET=examples/tickets/p7.txt BY='last 9..10'
 makes commit 'P7 refused' 'refused 9: no times keep all rules' 2 TICKET=$p7 BY='last 10..10'
 BY='flash 8..8' makes commit 'BY in the environment' "$p1_twice_told" 0
 for by in 'shuter 6..10' 'shutter 6' 'flash 8..9 flash 8..8' 'shutter 6..10; echo x' "shutter 6..10'" 'shutter "6..10"' "shutter \`echo 6\`..10" '*'; do
@@ -702,10 +800,11 @@ stands() {
     good $? "$1 has another text than '${2%%/*} ..'"
 }
 stands README.md "$my_told"
-stands README.md "\$ make -s commit TICKET=my.txt BY=\"$first_by\" | tail -n 9/$first_told"
+stands README.md "\$ make -s commit TICKET=my.txt BY=\"$first_by\" | tail -n 12/$first_told"
 stands README.md "$p1_told"
 stands README.md "$p1_stops_told"
 stands docs/TEXT-FORM.md "\$ make -s commit BY=\"$p1_by\" | tail -n 13/$p1_run_told"
+stands docs/TEXT-FORM.md "$both_shown$(counted 2 0 1 0 0)"
 stands docs/TEXT-FORM.md "$p4_ending"
 stands docs/TEXT-FORM.md "$p6_told"
 stands docs/TEXT-FORM.md "$p7_told"
@@ -716,7 +815,7 @@ while read -r verdict name; do
     if [ "$verdict" = ok ]; then pass; else fail "doors: $name"; fi
 done <"$work/got"
 
-for program in host 'doors short' table 'table stops' 'commit 1 6 10 1 10 10 1 9 9 2 10 12'; do
+for program in host 'doors short' table 'table stops' 'commit 1 6 10 1 10 10 1 9 9 2 10 12' 'record 1 6 10 2 8 8'; do
     # shellcheck disable=SC2086
     valgrind -q --error-exitcode=9 --leak-check=full "$work/"$program <examples/tickets/p1.ticket >/dev/null 2>"$work/errors"
     good $? "$program under valgrind"

@@ -5,9 +5,9 @@ use crate::impossible::{self, SHAPES};
 use crate::library::Library;
 use crate::model::calls::{self, Asked, Loose, LooseRecord};
 use crate::model::{flags, reading, rings, writing, Commitment, Prefer, Record, Rule, Solver, Ticket, Window};
-use crate::model::{BOTH, MOST_ACCEPTED};
+use crate::model::{BOTH, DEVICES, MOST_ACCEPTED};
 use crate::random::Random;
-use crate::trial::{Lengths, Report, Trial, ENOUGH};
+use crate::trial::{hex, Lengths, Report, Trial, ENOUGH};
 
 #[derive(Clone, Copy, Debug, PartialEq, Eq)]
 pub enum Kind {
@@ -21,7 +21,7 @@ pub enum Kind {
     Foreign,
     /// Bytes damaged, cut and extended.
     Damaged,
-    /// Every prefix of a ticket and a record, and one byte more.
+    /// Prefixes of a ticket and a record, all that end inside the counts among them, and one byte more.
     Prefixes,
     /// Output and scratch lengths around the limits.
     Lengths,
@@ -43,13 +43,15 @@ pub enum Kind {
     ReasonLists,
     /// Tables after many numbers of stops, of tickets of all structures and of damaged ones.
     Stops,
-    /// Long runs of commitments in which committed events narrow again and again, also up to the greatest number.
+    /// Long runs of commitments in which committed events narrow again and again, also up to the greatest count.
     Narrowing,
     /// The same on tiny tickets, expected answers by exhaustive search.
     NarrowingTiny,
+    /// Records on which one device may commit once more or no more, and records whose counts are damaged.
+    Counts,
 }
 
-pub const KINDS: [Kind; 18] = [
+pub const KINDS: [Kind; 19] = [
     Kind::Tiny,
     Kind::Structures,
     Kind::Runs,
@@ -68,6 +70,7 @@ pub const KINDS: [Kind; 18] = [
     Kind::Stops,
     Kind::Narrowing,
     Kind::NarrowingTiny,
+    Kind::Counts,
 ];
 
 impl Kind {
@@ -91,6 +94,7 @@ impl Kind {
             Kind::Stops => "stops",
             Kind::Narrowing => "narrowing",
             Kind::NarrowingTiny => "narrowing-tiny",
+            Kind::Counts => "counts",
         }
     }
 
@@ -104,7 +108,8 @@ impl Kind {
             0..=109 => Kind::Tiny,
             110..=269 => Kind::Structures,
             270..=309 => Kind::Runs,
-            310..=419 => Kind::Foreign,
+            310..=394 => Kind::Foreign,
+            395..=419 => Kind::Counts,
             420..=449 => Kind::Narrowing,
             450..=489 => Kind::NarrowingTiny,
             490..=529 => Kind::Stops,
@@ -130,6 +135,7 @@ impl Kind {
     /// The numbers that the quick part has to reach in calls of this kind, beside those of all kinds together.
     pub fn numbers(self) -> &'static [usize] {
         match self {
+            Kind::Foreign => &[0, 10, 11, 13, 15, 18],
             Kind::Values => &[0, 2, 3, 4, 5, 6, 7, 9, 10],
             Kind::Records => &[0, 2, 3, 4, 5, 6, 7, 10, 14],
             Kind::Text => &[0, 1, 2, 3, 4, 5, 6, 7, 8, 9],
@@ -138,6 +144,7 @@ impl Kind {
             Kind::ReasonTiny => &[0, 17],
             Kind::Stops => &[0, 1, 2, 3, 4, 5, 6, 7, 8, 9, 10],
             Kind::Narrowing | Kind::NarrowingTiny => &[0, 10, 11, 13, 18],
+            Kind::Counts => &[0, 1, 8, 10, 11, 13, 14, 15, 18],
             _ => &[],
         }
     }
@@ -165,6 +172,7 @@ pub fn run(kind: Kind, seed: u64, library: &dyn Library) -> Report {
         Kind::Stops => stops(&mut trial, seed),
         Kind::Narrowing => narrowing(&mut trial, seed),
         Kind::NarrowingTiny => narrowing_tiny(&mut trial),
+        Kind::Counts => counts(&mut trial, seed),
     }
     trial.report
 }
@@ -202,13 +210,14 @@ const AGAIN: usize = 25;
 
 /// Commits on a record until `most` commitments are tried or every event is committed to a single tick; `refused` percent of
 /// the calls bring a commitment with something wrong or too little memory, `again` percent of the others narrow a committed
-/// window.
+/// window. After each that is accepted the counts are the start's and the acceptances of each device.
 fn commit_on(trial: &mut Trial, start: Vec<u8>, most: usize, refused: usize, again: usize) {
     let Ok(mut record) = reading::record(&start) else {
         trial.report.differences.push("an unreadable record was written".to_string());
         return;
     };
     let mut bytes = start;
+    let mut counts = record.counts;
     // What each window was before its event last narrowed it; at first the whole session.
     let mut earlier = vec![Window { open: 0, close: record.ticket.horizon }; record.windows.len()];
     for _ in 0..most {
@@ -222,6 +231,8 @@ fn commit_on(trial: &mut Trial, start: Vec<u8>, most: usize, refused: usize, aga
         if let Some(after) = trial.commit(&bytes, commitment, lengths) {
             let Some(next) = trial.follows(&record, commitment, &after) else { return };
             let place = commitment.event as usize - 1;
+            counts[record.ticket.owners[place] as usize] += 1;
+            trial.expect(next.counts == counts, "counts of a run", || format!("{counts:?} of {}", hex(&after)));
             if next.windows[place] != record.windows[place] {
                 earlier[place] = record.windows[place];
             }
@@ -325,7 +336,9 @@ fn prefixes(trial: &mut Trial) {
             trial.plan(prefer, &ticket[..length], ENOUGH);
         }
     }
-    for length in (0..=bytes.len()).rev().step_by(steps) {
+    // All that end inside the counts, the record's last 12 bytes, are met.
+    let met = |length: &usize| bytes.len() - length <= 13 || (bytes.len() - length) % steps == 0;
+    for length in (0..=bytes.len()).rev().filter(met) {
         trial.rewrite_record(&bytes[..length], calls::RECORD);
         trial.commit(&bytes[..length], commitment, ENOUGH);
     }
@@ -460,23 +473,56 @@ fn narrowing_tiny(trial: &mut Trial) {
     narrow(trial, ticket, 16);
 }
 
-/// A run that narrows again and again. It starts from the plan, the latest plan, or a record from elsewhere with a number so
-/// near the greatest, or 256, that it may be reached.
+/// A run that narrows again and again. It starts from the plan, the latest plan, or a record from elsewhere with a count, of
+/// one device or of each, so near the greatest, or 256, that it may be reached.
 fn narrow(trial: &mut Trial, ticket: Ticket, most: usize) {
     let random = &mut trial.random;
     let again = random.pick(&[40, 70, 95]);
-    let left = random.below(3 * ticket.events() + 2) as u32;
+    let left = random.below(ticket.events() + 2) as u32;
     let start = match random.below(5) {
         0..=1 => trial.plan(Prefer::Earliest, &writing::ticket(&ticket), ENOUGH),
         2 => trial.plan(Prefer::Latest, &writing::ticket(&ticket), ENOUGH),
         _ => generate::fit_windows(&ticket, random).map(|windows| {
-            let accepted = random.pick(&[256, MOST_ACCEPTED, MOST_ACCEPTED]) - left;
-            writing::record(&Record { accepted, ..generate::flagged(ticket, windows, random) })
+            let record = generate::flagged(ticket, windows, random);
+            let high = random.pick(&[256, MOST_ACCEPTED, MOST_ACCEPTED]) - left;
+            let one = generate::one_high(&record, high, random);
+            let counts = if random.chance(60) { one } else { [high; DEVICES] };
+            writing::record(&Record { counts, ..record })
         }),
     };
     if let Some(record) = start {
         commit_on(trial, record, most, 25, again);
     }
+}
+
+/// A record from elsewhere with one count at the greatest or next to it and the others low. Each of its events commits on it;
+/// its counts are damaged; then a run goes on from it.
+fn counts(trial: &mut Trial, seed: u64) {
+    let random = &mut trial.random;
+    let (n, horizon) = generate::size(random);
+    let structure = STRUCTURES[seed as usize % STRUCTURES.len()];
+    let ticket = generate::ticket(structure, n.min(12), horizon, random);
+    let mut record = match generate::fit_windows(&ticket, random) {
+        Some(windows) => generate::flagged(ticket, windows, random),
+        None => generate::foreign_record(ticket, random),
+    };
+    let high = random.pick(&[MOST_ACCEPTED - 1, MOST_ACCEPTED]);
+    record.counts = generate::one_high(&record, high, random);
+    let bytes = writing::record(&record);
+    trial.rewrite_record(&bytes, calls::RECORD);
+    for k in 0..record.windows.len() {
+        let commitment = generate::commitment_at(&record, k, &mut trial.random);
+        if let Some(after) = trial.commit(&bytes, commitment, ENOUGH) {
+            trial.follows(&record, commitment, &after);
+        }
+    }
+    for _ in 0..4 {
+        let damaged = generate::damaged_counts(&record, &mut trial.random);
+        let commitment = generate::commitment(&record, AGAIN, &mut trial.random);
+        trial.rewrite_record(&damaged, calls::RECORD);
+        trial.commit(&damaged, commitment, ENOUGH);
+    }
+    commit_on(trial, bytes, 12, 20, 50);
 }
 
 /// The reason of a ticket, again with another length, with the ticket damaged, and with one of the lists damaged.
@@ -622,7 +668,8 @@ impl Values {
     }
 }
 
-/// The windows of a record beside these values; by chance places past them are not 0.
+/// Windows and counts of a record beside these values; by chance places past the windows are not 0, and there are more or
+/// fewer than five counts.
 fn loosened_record(ticket: Loose, record: &Record, random: &mut Random) -> LooseRecord {
     let rest = random.pick(&[0, 0, 1, 255]);
     let mut loose = LooseRecord {
@@ -630,8 +677,11 @@ fn loosened_record(ticket: Loose, record: &Record, random: &mut Random) -> Loose
         flags: [rest; 40],
         opens: [rest as u32; 40],
         closes: [rest as u32; 40],
-        number: record.accepted,
+        counts: record.counts.to_vec(),
     };
+    if random.chance(20) {
+        loose.counts.resize(random.below(9), rest as u32);
+    }
     for (k, (window, &committed)) in record.windows.iter().zip(&record.committed).enumerate() {
         loose.flags[k] = committed as u8;
         loose.opens[k] = window.open;
@@ -640,25 +690,40 @@ fn loosened_record(ticket: Loose, record: &Record, random: &mut Random) -> Loose
     loose
 }
 
-/// One value after the ticket at or past a limit.
+/// One value after the ticket at or past a limit, or the events of one device committed and no others.
 fn disturb_windows(loose: &mut LooseRecord, random: &mut Random) {
     let horizon = loose.ticket.horizon;
     let events = (loose.ticket.events as usize).clamp(1, 40);
     let k = random.below(events);
-    match random.below(6) {
+    let owners = loose.ticket.owners;
+    match random.below(8) {
         0 => loose.flags[k] = random.pick(&[0, 1, 2, 255]),
         1 => loose.opens[k] = random.pick(&[0, loose.closes[k], loose.closes[k].saturating_add(1), u32::MAX]),
         2 => loose.closes[k] = random.pick(&[0, loose.opens[k], loose.opens[k].saturating_sub(1)]),
         3 => loose.closes[k] = random.pick(&[horizon, horizon.saturating_add(1), u32::MAX]),
-        4 => {
-            let set = flags(&loose.flags.map(|flag| flag == 1)[..events]);
+        4..=5 => {
+            let device = random.below(DEVICES);
+            let set = flags(&owners, &loose.flags.map(|flag| flag == 1)[..events])[device];
             let below = set.saturating_sub(1);
-            let numbers = [0, below, below, set, set + 65_536, MOST_ACCEPTED, MOST_ACCEPTED + 1, u32::MAX];
-            loose.number = random.pick(&numbers);
+            let values = [0, below, below, set, set + 65_536, MOST_ACCEPTED, MOST_ACCEPTED + 1, u32::MAX];
+            loose.counts.resize(DEVICES, 0);
+            loose.counts[device] = random.pick(&values);
+        }
+        6 => {
+            loose.flags[k] = 1 - loose.flags[k].min(1);
+            if let Some(count) = loose.counts.get_mut(owners[k] as usize) {
+                *count += random.below(2) as u32;
+            }
         }
         _ => {
-            loose.flags[k] = 1 - loose.flags[k].min(1);
-            loose.number = random.pick(&[loose.number, loose.number + 1]);
+            // The device's count is that of its flags or one below, which is no less than the others' flags.
+            for (flag, owner) in loose.flags.iter_mut().zip(owners).take(events) {
+                *flag = (owner == owners[k]) as u8;
+            }
+            let set = loose.flags[..events].iter().filter(|&&flag| flag == 1).count() as u32;
+            if let Some(count) = loose.counts.get_mut(owners[k] as usize) {
+                *count = set - random.below(2) as u32;
+            }
         }
     }
 }

@@ -1,10 +1,11 @@
 //! Libraries with one planted fault each. The self-check has the quick part find every one of them.
 
+use crate::counts_faults::{self, CountsFault};
 use crate::library::{self, Library, Model};
 use crate::mirror;
 use crate::model::calls::{self, Answer, Asked, Loose, LooseRecord, Outcome};
 use crate::model::{
-    distances, reading, text, writing, Commitment, Prefer, Range, Record, Rule, Solver, Ticket, Window,
+    distances, reading, text, Commitment, Prefer, Range, Record, Rule, Solver, Ticket, Window, DEVICES,
 };
 use crate::narrowing_faults::{self, NarrowingFault};
 use crate::reason_faults::{self, ReasonFault};
@@ -20,7 +21,7 @@ pub enum Fault {
     Silent,
     /// After the first commitment the record comes back as it was.
     EchoesLater,
-    /// The number of commitments rises by two.
+    /// The count of the event's device rises by two.
     InventsCount,
     /// A widest plan that is not the earliest.
     LatestPlan,
@@ -36,8 +37,6 @@ pub enum Fault {
     MiddleTicks,
     /// A ring of rules of sum 0 counts as impossible.
     RefusesZeroRing,
-    /// The last number of a record is not looked at.
-    AnyCount,
     /// A rule's bound is looked at before its points.
     BoundFirst,
     /// Bytes after the end are not noticed.
@@ -84,10 +83,12 @@ pub enum Fault {
     Stops(StopFault),
     /// A fault of narrowing again.
     Narrowing(NarrowingFault),
+    /// A fault of the devices' counts.
+    Counts(CountsFault),
 }
 
-/// All faults but those of reasons, of stops and of narrowing again.
-pub const FAULTS: [Fault; 33] = [
+/// All faults but those of reasons, of stops, of narrowing again and of counts.
+pub const FAULTS: [Fault; 32] = [
     Fault::RefusesAll,
     Fault::OnePlan,
     Fault::Silent,
@@ -100,7 +101,6 @@ pub const FAULTS: [Fault; 33] = [
     Fault::TotalOfFree,
     Fault::MiddleTicks,
     Fault::RefusesZeroRing,
-    Fault::AnyCount,
     Fault::BoundFirst,
     Fault::BytesAfter,
     Fault::ShortOutput,
@@ -172,21 +172,6 @@ fn has_zero_ring(ticket: &Ticket) -> bool {
     distances::table(ticket).is_some_and(|d| points.clone().any(|i| (1..i).any(|j| d[i][j] + d[j][i] == 0)))
 }
 
-/// The record with its last number mended, if that is all that is wrong with it.
-fn with_mended_count(bytes: &[u8]) -> Vec<u8> {
-    let mut mended = bytes.to_vec();
-    if bytes.len() >= 2 && reading::record(bytes) == Err(14) {
-        for count in 0..=40u16 {
-            let at = mended.len() - 2;
-            mended[at..].copy_from_slice(&count.to_le_bytes());
-            if reading::record(&mended).is_ok() {
-                return mended;
-            }
-        }
-    }
-    bytes.to_vec()
-}
-
 /// The longest prefix that reads as a ticket, if there is one.
 pub fn ticket_prefix(bytes: &[u8]) -> &[u8] {
     let whole = |length: &usize| reading::ticket(&bytes[..*length]).is_ok();
@@ -256,22 +241,25 @@ impl Faulty {
                 total = record.ticket.total(&record.windows);
             }
             Fault::RefusesZeroRing if has_zero_ring(&record.ticket) => return Err(9),
+            Fault::Counts(fault) => record.counts = counts_faults::planned(fault, prefer, &record),
             _ => {}
         }
         Ok((record, total))
     }
 
     fn committed(&self, bytes: &[u8], commitment: Commitment) -> Outcome {
-        if let Fault::Narrowing(fault) = self.fault {
-            return narrowing_faults::committed(fault, bytes, commitment);
+        match self.fault {
+            Fault::Narrowing(fault) => return narrowing_faults::committed(fault, bytes, commitment),
+            Fault::Counts(fault) => return counts_faults::committed(fault, bytes, commitment),
+            _ => {}
         }
-        let mended = if self.fault == Fault::AnyCount { with_mended_count(bytes) } else { bytes.to_vec() };
-        let outcome = library::committed(&mended, commitment);
-        let former = reading::record(&mended);
+        let outcome = library::committed(bytes, commitment);
+        let former = reading::record(bytes);
         match (self.fault, outcome, former) {
-            (Fault::EchoesLater, Ok((_, total)), Ok(former)) if former.accepted > 0 => Ok((former, total)),
+            (Fault::EchoesLater, Ok((_, total)), Ok(former)) if former.counts != [0; DEVICES] => Ok((former, total)),
             (Fault::InventsCount, Ok((mut record, total)), _) => {
-                record.accepted += 1;
+                let owner = record.ticket.owners[commitment.event as usize - 1];
+                record.counts[owner as usize] += 1;
                 Ok((record, total))
             }
             (Fault::ForgetsFormer, Ok((record, _)), _) => Ok(afresh(record)),
@@ -334,6 +322,7 @@ impl Faulty {
                 }
                 answer
             }
+            Fault::Counts(fault) => counts_faults::deliver(fault, outcome, out, scratch),
             _ => calls::deliver(outcome, out, scratch),
         }
     }
@@ -453,19 +442,10 @@ impl Library for Faulty {
     }
 
     fn rewrite_record(&self, record: &[u8], out: &mut [u8]) -> (u32, u32) {
-        if let Fault::Narrowing(fault) = self.fault {
-            return narrowing_faults::rewrite_record(fault, record, out);
-        }
-        if self.fault != Fault::AnyCount || out.len() < calls::RECORD {
-            return Model.rewrite_record(record, out);
-        }
-        let mended = with_mended_count(record);
-        match reading::record(&mended).map(|record| writing::record(&record)) {
-            Ok(bytes) => {
-                out[..bytes.len()].copy_from_slice(&bytes);
-                (0, bytes.len() as u32)
-            }
-            Err(number) => (number, 0),
+        match self.fault {
+            Fault::Narrowing(fault) => narrowing_faults::rewrite_record(fault, record, out),
+            Fault::Counts(fault) => counts_faults::rewrite_record(fault, record, out),
+            _ => Model.rewrite_record(record, out),
         }
     }
 
@@ -477,6 +457,7 @@ impl Library for Faulty {
         match self.fault {
             Fault::WritesLateWindow => Model.write_record(&cut_at_horizon(loose), out),
             Fault::Narrowing(fault) => narrowing_faults::write_record(fault, loose, out),
+            Fault::Counts(fault) => counts_faults::write_record(fault, loose, out),
             _ => Model.write_record(loose, out),
         }
     }

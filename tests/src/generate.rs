@@ -1,6 +1,6 @@
 //! Tickets of several structures and sizes, windows and commitments on them, damaged bytes.
 
-use crate::model::{distances, flags, writing, Commitment, Record, Rule, Ticket, Window, MOST_ACCEPTED};
+use crate::model::{distances, flags, writing, Commitment, Record, Rule, Ticket, Window, DEVICES, MOST_ACCEPTED};
 use crate::random::Random;
 
 #[derive(Clone, Copy, Debug, PartialEq, Eq)]
@@ -335,24 +335,41 @@ pub fn foreign_record(ticket: Ticket, random: &mut Random) -> Record {
     flagged(ticket, windows, random)
 }
 
-/// The record of these windows with any flags and any number that they allow.
+/// The record of these windows with any flags and any counts that they allow: each device's on its own, or one near the
+/// greatest and the others low.
 pub fn flagged(ticket: Ticket, windows: Vec<Window>, random: &mut Random) -> Record {
     let share = random.pick(&[0, 0, 30, 80]);
     let committed: Vec<bool> = windows.iter().map(|_| random.chance(share)).collect();
-    let accepted = last_number(flags(&committed), random);
-    Record { ticket, committed, windows, accepted }
+    let mut record = Record { committed, ..Record::new(ticket, windows) };
+    record.counts = if random.chance(70) {
+        flags(&record.ticket.owners, &record.committed).map(|set| count(set, random))
+    } else {
+        let high = random.pick(&[MOST_ACCEPTED - 1, MOST_ACCEPTED]);
+        one_high(&record, high, random)
+    };
+    record
 }
 
-/// A last number beside this many flags: theirs, a few more, at a limit or any.
-fn last_number(flags: u32, random: &mut Random) -> u32 {
+/// A count beside this many flags: theirs, a few more, at a limit or any.
+fn count(set: u32, random: &mut Random) -> u32 {
     match random.below(10) {
-        0..=3 => flags,
-        4..=5 => flags + random.between(1, 4) as u32,
+        0..=3 => set,
+        4..=5 => set + random.between(1, 4) as u32,
         6 => random.pick(&[255, 256, 257, 32_767, 32_768]),
         7 => random.pick(&[MOST_ACCEPTED - 2, MOST_ACCEPTED - 1]),
         8 => MOST_ACCEPTED,
-        _ => random.between(flags as i64, MOST_ACCEPTED as i64) as u32,
+        _ => random.between(set as i64, MOST_ACCEPTED as i64) as u32,
     }
+}
+
+/// Counts of which one is this high, that of a device which owns an event if there is any, and the others the flags' or a
+/// few more.
+pub fn one_high(record: &Record, high: u32, random: &mut Random) -> [u32; DEVICES] {
+    let owners = &record.ticket.owners;
+    let device = if owners.is_empty() { random.below(DEVICES) } else { random.pick(owners) as usize };
+    let mut counts = flags(owners, &record.committed).map(|set| set + random.below(4) as u32);
+    counts[device] = high;
+    counts
 }
 
 /// A commitment that may be accepted: an event and a window inside its own. `again` percent of them are to a committed event
@@ -370,6 +387,11 @@ pub fn commitment(record: &Record, again: usize, random: &mut Random) -> Commitm
         _ if drawn < 95 && !free.is_empty() => free,
         _ => events.collect(),
     });
+    commitment_at(record, k, random)
+}
+
+/// A commitment of the event at this place to a window inside its own.
+pub fn commitment_at(record: &Record, k: usize, random: &mut Random) -> Commitment {
     let Window { open, close } = inside(record.windows[k], random);
     Commitment { event: k as u32 + 1, open, close }
 }
@@ -419,15 +441,37 @@ pub fn refused_commitment(record: &Record, earlier: &[Window], random: &mut Rand
     Commitment { event: k as u32 + 1, open, close }
 }
 
-/// A record's bytes damaged; one in five times in its last number alone, which is then at a limit or off by one.
+/// A record's bytes damaged; one in five times in its counts alone.
 pub fn damaged_record(record: &Record, random: &mut Random) -> Vec<u8> {
     if random.chance(80) {
-        return damaged(&writing::record(record), random);
+        damaged(&writing::record(record), random)
+    } else {
+        damaged_counts(record, random)
     }
-    let set = flags(&record.committed);
-    let below = set.saturating_sub(1);
-    let accepted = random.pick(&[0, below, below, set, set + 256, MOST_ACCEPTED]);
-    writing::record(&Record { accepted, ..record.clone() })
+}
+
+/// A record's bytes with the number of its counts, or one of these, at a limit or off by one. Half of them end inside the
+/// counts or have a byte more.
+pub fn damaged_counts(record: &Record, random: &mut Random) -> Vec<u8> {
+    let mut bytes = writing::record(record);
+    let start = bytes.len() - 2 - 2 * DEVICES;
+    let set = flags(&record.ticket.owners, &record.committed);
+    let flagged: Vec<usize> = (0..DEVICES).filter(|&device| set[device] > 0).collect();
+    let device = if flagged.is_empty() { random.below(DEVICES) } else { random.pick(&flagged) };
+    let below = set[device].saturating_sub(1);
+    let (at, value) = if random.chance(30) {
+        (start, random.pick(&[0, 1, 4, 6, 5 + 256, 5 * 256, 65_535]))
+    } else {
+        let values = [0, below, below, set[device], set[device] + 256, MOST_ACCEPTED];
+        (start + 2 + 2 * device, random.pick(&values))
+    };
+    bytes[at..at + 2].copy_from_slice(&(value as u16).to_le_bytes());
+    match random.below(4) {
+        0 => bytes.truncate(random.between(start as i64, bytes.len() as i64 - 1) as usize),
+        1 => bytes.push(random.next() as u8),
+        _ => {}
+    }
+    bytes
 }
 
 /// Bytes with a few of them changed, cut off or added.

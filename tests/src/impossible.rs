@@ -2,8 +2,7 @@
 
 use crate::generate::{self, Rules, MOST_RULES, STRUCTURES};
 use crate::model::calls::Asked;
-use crate::model::reason::DEVICES;
-use crate::model::{writing, Ticket};
+use crate::model::{writing, Ticket, DEVICES};
 use crate::random::Random;
 
 #[derive(Clone, Copy, Debug, PartialEq, Eq)]

@@ -127,7 +127,8 @@ extern "C" {
         opens_len: usize,
         closes: *const u32,
         closes_len: usize,
-        number: u32,
+        counts: *const u32,
+        counts_len: usize,
         out: *mut u8,
         out_len: usize,
         length: *mut u32,
@@ -264,7 +265,7 @@ impl Library for Linked {
 
     fn write_record(&self, loose: &LooseRecord, out: &mut [u8]) -> (u32, u32) {
         let mut length = UNWRITTEN;
-        let LooseRecord { ticket, flags, opens, closes, number } = loose;
+        let LooseRecord { ticket, flags, opens, closes, counts } = loose;
         let number = unsafe {
             harness_write_record(
                 ticket.horizon,
@@ -284,7 +285,8 @@ impl Library for Linked {
                 opens.len(),
                 closes.as_ptr(),
                 closes.len(),
-                *number,
+                counts.as_ptr(),
+                counts.len(),
                 out.as_mut_ptr(),
                 out.len(),
                 &mut length,

@@ -1,6 +1,7 @@
 //! Compares the library with another implementation of document 01. See docs/TESTING.md.
 
 mod cases;
+mod counts_faults;
 mod faults;
 mod generate;
 mod impossible;
@@ -19,6 +20,7 @@ mod stored;
 mod trial;
 
 use cases::{Kind, KINDS};
+use counts_faults::COUNTS_FAULTS;
 use faults::{Fault, Faulty, FAULTS};
 use library::Library;
 use narrowing_faults::NARROWING_FAULTS;
@@ -30,7 +32,7 @@ use stop_faults::STOP_FAULTS;
 use trial::{Report, NUMBERS};
 
 /// How many seeds of each kind the quick part tries.
-const QUICK: [(Kind, u64); 18] = [
+const QUICK: [(Kind, u64); 19] = [
     (Kind::Tiny, 3_000),
     (Kind::Structures, 3_000),
     (Kind::Runs, 100),
@@ -49,6 +51,7 @@ const QUICK: [(Kind, u64); 18] = [
     (Kind::Stops, 3_000),
     (Kind::Narrowing, 250),
     (Kind::NarrowingTiny, 2_000),
+    (Kind::Counts, 1_500),
 ];
 
 const USAGE: &str = "\
@@ -56,7 +59,7 @@ tests/run quick                      stored cases and some thousand seeds: the g
 tests/run long SEED COUNT [THREADS]  seeds from SEED on until COUNT calls are made
 tests/run one KIND SEED              one case: tiny structures runs foreign damaged prefixes lengths values records text
                                      latest latest-tiny reason reason-tiny reason-lists stops narrowing
-                                     narrowing-tiny
+                                     narrowing-tiny counts
 tests/run solvers SEED COUNT         the solvers of the model against each other
 tests/run self-check                 libraries with a planted fault: each has to be caught";
 
@@ -222,7 +225,8 @@ fn long(library: &dyn Library, seed: u64, count: u64, threads: usize) -> i32 {
 fn self_check() -> i32 {
     let mut all = Tally::default();
     let of_calls = REASON_FAULTS.map(Fault::Reason).into_iter().chain(STOP_FAULTS.map(Fault::Stops));
-    for fault in FAULTS.into_iter().chain(of_calls).chain(NARROWING_FAULTS.map(Fault::Narrowing)) {
+    let of_records = NARROWING_FAULTS.map(Fault::Narrowing).into_iter().chain(COUNTS_FAULTS.map(Fault::Counts));
+    for fault in FAULTS.into_iter().chain(of_calls).chain(of_records) {
         let library = Faulty { fault };
         let mut caught: Vec<String> = Vec::new();
         for case in &stored::CASES {

@@ -3,7 +3,8 @@
 use crate::faults::afresh;
 use crate::library::{self, Library, Model};
 use crate::model::calls::{self, LooseRecord, Outcome};
-use crate::model::{flags, reading, writing, Commitment, Prefer, Range, Record, Solver, Window, MOST_ACCEPTED};
+use crate::model::{flags, reading, writing, Commitment, Prefer, Range, Record, Solver, Window};
+use crate::model::{DEVICES, MOST_ACCEPTED};
 
 #[derive(Clone, Copy, Debug, PartialEq, Eq)]
 pub enum NarrowingFault {
@@ -11,9 +12,9 @@ pub enum NarrowingFault {
     AlreadyCommitted,
     /// A second commitment of an event accepted with the record as it was.
     Echoes,
-    /// A second commitment of an event accepted with the record as it was but for its number.
+    /// A second commitment of an event accepted with the record as it was but for the device's count.
     EchoesCounted,
-    /// The same window again accepted with the record as it was but for its number.
+    /// The same window again accepted with the record as it was but for the device's count.
     SameEchoed,
     /// At a second commitment the event narrows, and nothing widens.
     NoWideningAgain,
@@ -31,21 +32,21 @@ pub enum NarrowingFault {
     OthersGrow,
     /// A second commitment clears the event's flag.
     FlagCleared,
-    /// The number does not rise at a second commitment.
+    /// The count does not rise at a second commitment.
     CountsEvents,
-    /// The number does not rise.
-    NumberStays,
-    /// The number after a commitment is that of the set flags.
+    /// No count rises.
+    CountStays,
+    /// The count after a commitment is that of the flags set of the device's events.
     CountsFlags,
-    /// The upper byte of the number stays.
+    /// The upper byte of the count stays.
     LowByte,
     /// After 65,535 comes 0.
     Wraps,
-    /// The number stays at 65,535, and the commitment is accepted.
+    /// The count stays at 65,535, and the commitment is accepted.
     StaysAtMost,
     /// 18 at 65,534 already.
     FullEarly,
-    /// 18 only at a second commitment; at a first one the number becomes 0.
+    /// 18 only at a second commitment; at a first one the count becomes 0.
     FullAgainOnly,
     /// 18 before 13.
     FullBeforeInside,
@@ -59,15 +60,15 @@ pub enum NarrowingFault {
     FullWrites,
     /// 18 with the scratch as it was.
     FullDirtyScratch,
-    /// 14 where the number that is read is above the flags.
+    /// 14 where a count that is read is above the device's flags.
     ReadsFlags,
-    /// 14 where the number that is read is above the events.
+    /// 14 where a count that is read is above the number of events.
     ReadsUpToEvents,
-    /// 14 where the number that is written is above the flags.
+    /// 14 where a count that is written is above the device's flags.
     WritesFlags,
-    /// The flags' number written where the given one is below it.
+    /// The number of the device's flags written where the given count is below it.
     WritesBelow,
-    /// The last two bytes written of a number above 65,535.
+    /// The last two bytes written of a count above 65,535.
     WritesCut,
 }
 
@@ -85,7 +86,7 @@ pub const NARROWING_FAULTS: [NarrowingFault; 31] = [
     NarrowingFault::OthersGrow,
     NarrowingFault::FlagCleared,
     NarrowingFault::CountsEvents,
-    NarrowingFault::NumberStays,
+    NarrowingFault::CountStays,
     NarrowingFault::CountsFlags,
     NarrowingFault::LowByte,
     NarrowingFault::Wraps,
@@ -109,11 +110,11 @@ pub const NARROWING_FAULTS: [NarrowingFault; 31] = [
 fn read(fault: NarrowingFault, bytes: &[u8]) -> Result<Record, u32> {
     let record = reading::record(bytes)?;
     let most = match fault {
-        NarrowingFault::ReadsFlags => flags(&record.committed),
-        NarrowingFault::ReadsUpToEvents => record.windows.len() as u32,
-        _ => MOST_ACCEPTED,
+        NarrowingFault::ReadsFlags => flags(&record.ticket.owners, &record.committed),
+        NarrowingFault::ReadsUpToEvents => [record.windows.len() as u32; DEVICES],
+        _ => [MOST_ACCEPTED; DEVICES],
     };
-    if record.accepted <= most {
+    if record.counts.iter().zip(most).all(|(&count, most)| count <= most) {
         Ok(record)
     } else {
         Err(14)
@@ -145,6 +146,7 @@ fn ranges(fault: NarrowingFault, former: &Record, commitment: Commitment) -> Opt
 /// What the fault makes of a commitment that is accepted with this record.
 fn accepted(fault: NarrowingFault, former: Record, commitment: Commitment, mut record: Record) -> Outcome {
     let place = commitment.event as usize - 1;
+    let owner = record.ticket.owners[place] as usize;
     let named = record.windows[place];
     let again = former.committed[place];
     if let Some(ranges) = ranges(fault, &former, commitment) {
@@ -152,7 +154,7 @@ fn accepted(fault: NarrowingFault, former: Record, commitment: Commitment, mut r
     }
     match fault {
         NarrowingFault::AlreadyCommitted if again => return Err(12),
-        NarrowingFault::FullEarly if former.accepted == MOST_ACCEPTED - 1 => return Err(18),
+        NarrowingFault::FullEarly if former.counts[owner] == MOST_ACCEPTED - 1 => return Err(18),
         NarrowingFault::AfreshAgain if again => return Ok(afresh(record)),
         NarrowingFault::Echoes if again => record = former,
         NarrowingFault::EchoesCounted if again => record.windows = former.windows,
@@ -162,10 +164,14 @@ fn accepted(fault: NarrowingFault, former: Record, commitment: Commitment, mut r
             record.windows[place] = named;
         }
         NarrowingFault::FlagCleared if again => record.committed[place] = false,
-        NarrowingFault::CountsEvents if again => record.accepted = former.accepted,
-        NarrowingFault::NumberStays => record.accepted = former.accepted,
-        NarrowingFault::CountsFlags => record.accepted = flags(&record.committed),
-        NarrowingFault::LowByte => record.accepted = former.accepted / 256 * 256 + record.accepted % 256,
+        NarrowingFault::CountsEvents if again => record.counts = former.counts,
+        NarrowingFault::CountStays => record.counts = former.counts,
+        NarrowingFault::CountsFlags => {
+            record.counts[owner] = flags(&record.ticket.owners, &record.committed)[owner];
+        }
+        NarrowingFault::LowByte => {
+            record.counts[owner] = former.counts[owner] / 256 * 256 + record.counts[owner] % 256;
+        }
         _ => {}
     }
     let total = record.ticket.total(&record.windows);
@@ -174,16 +180,20 @@ fn accepted(fault: NarrowingFault, former: Record, commitment: Commitment, mut r
 
 /// What the fault makes of a commitment that is refused under this number.
 fn refused(fault: NarrowingFault, former: Record, commitment: Commitment, number: u32) -> Outcome {
-    let full = former.accepted == MOST_ACCEPTED;
     let committed = |k: usize| former.committed[k];
     let place = (commitment.event as usize).wrapping_sub(1);
+    // Where there is no such event, any device's count counts.
+    let full = match former.ticket.owners.get(place) {
+        Some(&owner) => former.counts[owner as usize] == MOST_ACCEPTED,
+        None => former.counts.contains(&MOST_ACCEPTED),
+    };
     match (fault, number) {
         (NarrowingFault::FullBeforeInside, 13) if full => Err(18),
         (NarrowingFault::FullBeforeEvent, 11) if full => Err(18),
         (NarrowingFault::FullBeforeFit, 15) if full => Err(18),
-        (NarrowingFault::Wraps, 18) => with_number(0, former, commitment),
-        (NarrowingFault::StaysAtMost, 18) => with_number(MOST_ACCEPTED, former, commitment),
-        (NarrowingFault::FullAgainOnly, 18) if !committed(place) => with_number(0, former, commitment),
+        (NarrowingFault::Wraps, 18) => with_count(0, former, commitment),
+        (NarrowingFault::StaysAtMost, 18) => with_count(MOST_ACCEPTED, former, commitment),
+        (NarrowingFault::FullAgainOnly, 18) if !committed(place) => with_count(0, former, commitment),
         (NarrowingFault::GrowsAgain, 13) if committed(place) => {
             let mut replaced = former;
             replaced.windows[place] = Window { open: commitment.open, close: commitment.close };
@@ -199,11 +209,13 @@ fn refused(fault: NarrowingFault, former: Record, commitment: Commitment, number
     }
 }
 
-/// The commitment as if the number had room, and then this one.
-fn with_number(accepted: u32, former: Record, commitment: Commitment) -> Outcome {
-    let roomy = Record { accepted: MOST_ACCEPTED - 1, ..former };
-    let (record, total) = library::committed(&writing::record(&roomy), commitment)?;
-    Ok((Record { accepted, ..record }, total))
+/// The commitment as if the device's count had room, which then becomes this one.
+fn with_count(count: u32, mut former: Record, commitment: Commitment) -> Outcome {
+    let owner = former.ticket.owners[commitment.event as usize - 1] as usize;
+    former.counts[owner] = MOST_ACCEPTED - 1;
+    let (mut record, total) = library::committed(&writing::record(&former), commitment)?;
+    record.counts[owner] = count;
+    Ok((record, total))
 }
 
 pub fn committed(fault: NarrowingFault, bytes: &[u8], commitment: Commitment) -> Outcome {
@@ -225,12 +237,13 @@ pub fn rewrite_record(fault: NarrowingFault, bytes: &[u8], out: &mut [u8]) -> (u
 /// Number and length of a record of any values that is written with this fault.
 pub fn write_record(fault: NarrowingFault, loose: &LooseRecord, out: &mut [u8]) -> (u32, u32) {
     let events = loose.ticket.events.min(40) as usize;
-    let set = flags(&loose.flags.map(|flag| flag == 1)[..events]);
-    let number = match fault {
-        NarrowingFault::WritesFlags if loose.number > set => u32::MAX,
-        NarrowingFault::WritesBelow => loose.number.max(set),
-        NarrowingFault::WritesCut => loose.number % 65_536,
-        _ => loose.number,
+    let set = flags(&loose.ticket.owners, &loose.flags.map(|flag| flag == 1)[..events]);
+    let written = |(count, set): (u32, u32)| match fault {
+        NarrowingFault::WritesFlags if count > set => u32::MAX,
+        NarrowingFault::WritesBelow => count.max(set),
+        NarrowingFault::WritesCut => count % 65_536,
+        _ => count,
     };
-    Model.write_record(&LooseRecord { number, ..loose.clone() }, out)
+    let counts = loose.first_counts().into_iter().zip(set).map(written).collect();
+    Model.write_record(&LooseRecord { counts, ..loose.clone() }, out)
 }

@@ -1,9 +1,8 @@
 //! The call for reasons in words with one planted fault.
 
 use crate::model::calls::{self, Asked};
-use crate::model::reason::{self, DEVICES};
 use crate::model::rings::{self, Step};
-use crate::model::{distances, reading, Ticket};
+use crate::model::{distances, reading, reason, Ticket, DEVICES};
 
 #[derive(Clone, Copy, Debug, PartialEq, Eq)]
 pub enum ReasonFault {

@@ -7,7 +7,8 @@ use crate::generate::{self, STRUCTURES};
 use crate::impossible::{self, SHAPES};
 use crate::mirror;
 use crate::model::calls::{self, Outcome};
-use crate::model::{distances, exhaustive, reading, reason, rings, stops, writing, Prefer, Solver, Ticket, BOTH};
+use crate::model::{distances, exhaustive, reading, reason, rings, stops, writing, Prefer, Solver, Ticket};
+use crate::model::{BOTH, DEVICES};
 use crate::random::Random;
 
 fn same(seed: u64, what: &str, by: impl Fn(Solver) -> Outcome, differences: &mut Vec<String>) {
@@ -50,7 +51,7 @@ fn reworded(seed: u64, ticket: &Ticket, random: &mut Random, differences: &mut V
     let asked = impossible::asked(ticket, random);
     let steps = rings::numbered(ticket);
     let ring = rings::first(ticket, Solver::Flow).unwrap_or_default();
-    let lists = [(&asked.labels, ticket.events()), (&asked.roster, reason::DEVICES)];
+    let lists = [(&asked.labels, ticket.events()), (&asked.roster, DEVICES)];
     let [Ok(labels), Ok(roster)] = lists.map(|(list, count)| reason::names(list, count)) else {
         return differences.push(format!("names read again at seed {seed}"));
     };

@@ -1,19 +1,20 @@
 //! Cases with known answers: the examples of 01, what 02 makes of them, and instances from the five source documents.
 //! Each is also compared with the model. "Says" lines are the source's statement, in our words.
 
+mod counts;
 mod narrowing;
 mod reasons;
 mod stops;
 
 use crate::library::Library;
-use crate::model::calls;
+use crate::model::calls::{self, Loose, LooseRecord};
 use crate::model::{reading, writing, Commitment, Prefer, Record, Rule, Solver, Ticket, Window, BOTH};
 use crate::trial::{Lengths, Report, Trial, ENOUGH};
 
 /// A name and what it tries.
 type Case = (&'static str, fn(&mut Stored));
 
-pub const CASES: [Case; 53] = [
+pub const CASES: [Case; 65] = [
     ("01, P1 and P2", example_1_2),
     ("01, P3", example_3),
     ("01, P4 and P5", example_4_5),
@@ -51,10 +52,22 @@ pub const CASES: [Case; 53] = [
     ("02, change 4: widest and then earliest", narrowing::widest_then_earliest),
     ("02, change 4: a committed window does not grow", narrowing::no_growing),
     ("02, change 4: tick by tick", narrowing::tick_by_tick),
-    ("02, change 4: the number up to 65,535", narrowing::up_to_the_most),
+    ("02, change 4: a count up to 65,535", narrowing::up_to_the_most),
     ("02, change 4: refusals in their order", narrowing::refusals),
-    ("02, change 4: numbers that are read", narrowing::numbers_read),
-    ("02, change 4: numbers that are written", narrowing::numbers_written),
+    ("02, change 4: counts that are read", narrowing::counts_read),
+    ("02, change 4: counts that are written", narrowing::counts_written),
+    ("02, change 5: whole records of P1 to P10", counts::whole_records),
+    ("02, change 5: each device's acceptances", counts::each_device),
+    ("02, change 5: counts of a session", counts::session),
+    ("02, change 5: one device at 65,535", counts::one_full),
+    ("02, change 5: a device's own flags", counts::own_flags),
+    ("02, change 5: devices without an event", counts::nothing_owned),
+    ("02, change 5: the number of the counts", counts::number_of_counts),
+    ("02, change 5: fields in their order", counts::fields_in_order),
+    ("02, change 5: an output of 1,958 bytes", counts::outputs),
+    ("02, change 5: the largest record", counts::largest),
+    ("02, change 5: both bytes of each count", counts::both_bytes),
+    ("02, change 5: counts that are written", counts::written),
     ("000, examples 1 and 2: trains", trains),
     ("000, example 3: earliest to latest", trains_earliest_to_latest),
     ("000, examples 4 to 6: a train commits", trains_commitment),
@@ -88,6 +101,35 @@ fn ticket(horizon: u32, owners: &[u8], rules: &[(u8, u8, i32)]) -> Ticket {
 fn record(ticket: Ticket, windows: &[(u32, u32)]) -> Vec<u8> {
     let windows = windows.iter().map(|&(open, close)| Window { open, close }).collect();
     writing::record(&Record::new(ticket, windows))
+}
+
+/// The last 12 bytes of a record with these counts.
+fn section(counts: [u16; 5]) -> Vec<u8> {
+    [5].into_iter().chain(counts).flat_map(u16::to_le_bytes).collect()
+}
+
+/// What a caller of writing hands over for the record with these counts.
+fn handed(bytes: &[u8], counts: &[u32]) -> Option<LooseRecord> {
+    let Record { ticket, committed, windows, .. } = reading::record(bytes).ok()?;
+    let mut ticket_values = Loose {
+        horizon: ticket.horizon,
+        events: ticket.events() as u32,
+        owners: [0; 40],
+        rules: ticket.rules.len() as u32,
+        from: [0; 256],
+        to: [0; 256],
+        bound: [0; 256],
+    };
+    ticket_values.owners[..ticket.events()].copy_from_slice(&ticket.owners);
+    for (k, rule) in ticket.rules.iter().enumerate() {
+        (ticket_values.from[k], ticket_values.to[k], ticket_values.bound[k]) = (rule.from, rule.to, rule.bound);
+    }
+    let counts = counts.to_vec();
+    let mut values = LooseRecord { ticket: ticket_values, flags: [0; 40], opens: [0; 40], closes: [0; 40], counts };
+    for (k, window) in windows.iter().enumerate() {
+        (values.flags[k], values.opens[k], values.closes[k]) = (committed[k] as u8, window.open, window.close);
+    }
+    Some(values)
 }
 
 impl Stored<'_> {
@@ -139,6 +181,13 @@ impl Stored<'_> {
 
     fn refused(&mut self, record: &Option<Vec<u8>>, what: &str) {
         self.says(record.is_none(), what);
+    }
+
+    /// The number that a commitment is refused under, by the model; the library was compared with it.
+    fn uncommitted(&mut self, record: &[u8], (event, open, close): (u32, u32, u32), number: u32, what: &str) {
+        self.commit(record, event, open, close);
+        let given = calls::commit(record, Commitment { event, open, close }, Solver::Flow);
+        self.says(given.err() == Some(number), what);
     }
 
     /// The number that planning and the latest plan give, by the model; the library was compared with it.

@@ -5,7 +5,7 @@ use crate::library::Library;
 use crate::model::calls::{self, Answer, Asked, Loose, LooseRecord, Outcome};
 use crate::model::rings::{self, Step};
 use crate::model::stops::NO_PATH;
-use crate::model::{reading, reason, text, writing, Commitment, Prefer, Record, Rule, Solver, Ticket};
+use crate::model::{reading, reason, text, writing, Commitment, Prefer, Record, Rule, Solver, Ticket, DEVICES};
 use crate::random::Random;
 
 /// Numbers answered: 0 to 18.
@@ -192,11 +192,12 @@ impl<'a> Trial<'a> {
         self.rewriting(&|| format!("ticket {}", hex(ticket)), length, &expected, &call);
     }
 
-    pub fn rewrite_record(&mut self, record: &[u8], length: usize) {
+    /// A record read and written again; what the library wrote, if it accepts.
+    pub fn rewrite_record(&mut self, record: &[u8], length: usize) -> Option<Vec<u8>> {
         let library = self.library;
         let expected = |out: &mut [u8]| calls::rewrite_record(record, out);
         let call = |out: &mut [u8]| library.rewrite_record(record, out);
-        self.rewriting(&|| format!("record {}", hex(record)), length, &expected, &call);
+        self.rewriting(&|| format!("record {}", hex(record)), length, &expected, &call)
     }
 
     pub fn write_ticket(&mut self, loose: &Loose, length: usize) {
@@ -206,11 +207,12 @@ impl<'a> Trial<'a> {
         self.rewriting(&|| format!("ticket {loose:?}"), length, &expected, &call);
     }
 
-    pub fn write_record(&mut self, loose: &LooseRecord, length: usize) {
+    /// A record of these values written; what the library wrote, if it accepts.
+    pub fn write_record(&mut self, loose: &LooseRecord, length: usize) -> Option<Vec<u8>> {
         let library = self.library;
         let expected = |out: &mut [u8]| calls::write_record(loose, out);
         let call = |out: &mut [u8]| library.write_record(loose, out);
-        self.rewriting(&|| format!("record {loose:?}"), length, &expected, &call);
+        self.rewriting(&|| format!("record {loose:?}"), length, &expected, &call)
     }
 
     /// The whole text that the program prints for these bytes.
@@ -266,17 +268,15 @@ impl<'a> Trial<'a> {
             return None;
         };
         let place = commitment.event as usize - 1;
-        let mut flags = before.committed.clone();
+        let (mut flags, mut counts) = (before.committed.clone(), before.counts);
         flags[place] = true;
+        counts[before.ticket.owners[place] as usize] += 1;
         let kept = before.windows.iter().zip(&record.windows).enumerate().all(|(k, (old, new))| match k {
             _ if k == place => (new.open, new.close) == (commitment.open, commitment.close),
             _ if before.committed[k] => new == old,
             _ => new.open <= old.open && old.close <= new.close,
         });
-        let holds = kept
-            && record.ticket == before.ticket
-            && record.committed == flags
-            && record.accepted == before.accepted + 1;
+        let holds = kept && record.ticket == before.ticket && record.committed == flags && record.counts == counts;
         self.expect(holds, "a run's claim", || format!("{commitment:?} made {} of {before:?}", hex(after)));
         Some(record)
     }
@@ -326,7 +326,7 @@ fn rule_of_number(ticket: &Ticket, number: usize) -> Option<Step> {
 fn explains(asked: &Asked, text: &[u8]) -> Option<bool> {
     let ticket = reading::ticket(&asked.ticket).ok()?;
     let labels = reason::names(&asked.labels, ticket.events()).ok()?;
-    let roster = reason::names(&asked.roster, reason::DEVICES).ok()?;
+    let roster = reason::names(&asked.roster, DEVICES).ok()?;
     let read = reason::read(text)?;
     let ring: Vec<usize> = read.iter().map(|&(number, _)| number).collect();
     let walk: Vec<Step> = ring.iter().map(|&number| rule_of_number(&ticket, number)).collect::<Option<_>>()?;

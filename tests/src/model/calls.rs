@@ -1,11 +1,11 @@
 //! The calls: what is answered and written, from everything that is lent.
 
-use super::{distances, exhaustive, reading, reason, rings, stops, writing};
-use super::{Commitment, Prefer, Record, Rule, Solver, Ticket, Window, MOST_ACCEPTED};
+use super::{distances, exhaustive, flags, reading, reason, rings, stops, writing};
+use super::{Commitment, Prefer, Record, Rule, Solver, Ticket, Window, DEVICES, MOST_ACCEPTED};
 
 /// Least sizes: bytes of a ticket's and a record's output, numbers of scratch, numbers of a table, bytes of a reason's output.
 pub const TICKET: usize = 1_584;
-pub const RECORD: usize = 1_948;
+pub const RECORD: usize = 1_958;
 pub const SCRATCH: usize = 8_192;
 pub const TABLE: usize = 1_681;
 pub const REASON: usize = 2_200;
@@ -69,14 +69,15 @@ pub fn commit(bytes: &[u8], commitment: Commitment, solver: Solver) -> Outcome {
     if !(window.open <= commitment.open && commitment.open <= commitment.close && commitment.close <= window.close) {
         return Err(13);
     }
-    if record.accepted == MOST_ACCEPTED {
+    let owner = record.ticket.owners[place] as usize;
+    if record.counts[owner] == MOST_ACCEPTED {
         return Err(18);
     }
     let ranges = record.ranges_after(commitment);
     let windows = record.ticket.best(&ranges, Prefer::Earliest, solver);
     record.windows = windows.expect("the record's own windows are in the ranges");
     record.committed[place] = true;
-    record.accepted += 1;
+    record.counts[owner] += 1;
     let total = record.ticket.total(&record.windows);
     Ok((record, total))
 }
@@ -184,7 +185,14 @@ pub struct LooseRecord {
     pub flags: [u8; 40],
     pub opens: [u32; 40],
     pub closes: [u32; 40],
-    pub number: u32,
+    pub counts: Vec<u32>,
+}
+
+impl LooseRecord {
+    /// The first five counts, zeros where there are fewer.
+    pub fn first_counts(&self) -> [u32; DEVICES] {
+        std::array::from_fn(|device| self.counts.get(device).copied().unwrap_or(0))
+    }
 }
 
 /// What the places that count say; or 2 to 7 as reading gives them.
@@ -214,9 +222,11 @@ pub fn write_record(loose: &LooseRecord, out: &mut [u8]) -> (u32, u32) {
         let window = |k: usize| Window { open: loose.opens[k], close: loose.closes[k] };
         places.clone().try_for_each(|k| reading::window_in_range(loose.flags[k], window(k), ticket.horizon))?;
         let committed: Vec<bool> = places.clone().map(|k| loose.flags[k] == 1).collect();
-        reading::accepted_in_range(loose.number, &committed)?;
+        let counts = loose.first_counts();
+        let set = flags(&ticket.owners, &committed);
+        counts.iter().zip(set).try_for_each(|(&count, set)| reading::count_in_range(count, set))?;
         let windows = places.map(window).collect();
-        Ok(writing::record(&Record { ticket, committed, windows, accepted: loose.number }))
+        Ok(writing::record(&Record { ticket, committed, windows, counts }))
     })
 }
 
@@ -233,7 +243,7 @@ pub fn reason(asked: &Asked, out: &mut [u8], solver: Solver) -> (u32, u32) {
     rewrite(out, REASON, || {
         let ticket = reading::ticket(&asked.ticket)?;
         let labels = reason::names(&asked.labels, ticket.events())?;
-        let roster = reason::names(&asked.roster, reason::DEVICES)?;
+        let roster = reason::names(&asked.roster, DEVICES)?;
         if has_schedule(&ticket, solver) {
             return Err(17);
         }

@@ -34,13 +34,14 @@ pub struct Window {
     pub close: u32,
 }
 
-/// The last number counts every accepted commitment, also those of an event that was committed before.
+/// The counts are those of each device's accepted commitments, in owner order, with those of events that were committed
+/// before.
 #[derive(Clone, Debug, PartialEq, Eq)]
 pub struct Record {
     pub ticket: Ticket,
     pub committed: Vec<bool>,
     pub windows: Vec<Window>,
-    pub accepted: u32,
+    pub counts: [u32; DEVICES],
 }
 
 /// An event (1 to n) and the window it commits to.
@@ -75,15 +76,19 @@ pub enum Prefer {
 
 pub const BOTH: [Prefer; 2] = [Prefer::Earliest, Prefer::Latest];
 
-/// The greatest number of accepted commitments: two bytes hold it.
+/// Camera, filter wheel, lamps, stage, database.
+pub const DEVICES: usize = 5;
+
+/// The greatest count of a device: two bytes hold it.
 pub const MOST_ACCEPTED: u32 = 65_535;
 
 /// What a tick of width counts, by owner.
-pub const WORTH: [i64; 5] = [1, 1, 1, 1, 1];
+pub const WORTH: [i64; DEVICES] = [1, 1, 1, 1, 1];
 
-/// How many flags are set.
-pub fn flags(committed: &[bool]) -> u32 {
-    committed.iter().filter(|&&flag| flag).count() as u32
+/// How many flags are set of the events that each device owns.
+pub fn flags(owners: &[u8], committed: &[bool]) -> [u32; DEVICES] {
+    let set = |device| owners.iter().zip(committed).filter(|&(&owner, &flag)| owner as usize == device && flag).count();
+    std::array::from_fn(|device| set(device) as u32)
 }
 
 impl Ticket {
@@ -123,9 +128,9 @@ impl Ticket {
 }
 
 impl Record {
-    /// A record with every event free.
+    /// A record with every event free and no commitment accepted.
     pub fn new(ticket: Ticket, windows: Vec<Window>) -> Record {
-        Record { committed: vec![false; windows.len()], ticket, windows, accepted: 0 }
+        Record { committed: vec![false; windows.len()], ticket, windows, counts: [0; DEVICES] }
     }
 
     /// What each window may be after an event commits, be it for the first time or again: its own is the one named, the other

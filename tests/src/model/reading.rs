@@ -1,6 +1,6 @@
 //! Bytes to tickets and records: field by field in byte order, presence before value.
 
-use super::{flags, Record, Rule, Ticket, Window, MOST_ACCEPTED};
+use super::{flags, Record, Rule, Ticket, Window, DEVICES, MOST_ACCEPTED};
 
 struct Fields<'a> {
     bytes: &'a [u8],
@@ -61,9 +61,9 @@ pub fn window_in_range(flag: u8, window: Window, horizon: u32) -> Result<(), u32
     require(flag <= 1 && window.open <= window.close && window.close <= horizon, 14)
 }
 
-/// The last number: at least that of the set flags.
-pub fn accepted_in_range(accepted: u32, committed: &[bool]) -> Result<(), u32> {
-    require((flags(committed)..=MOST_ACCEPTED).contains(&accepted), 14)
+/// A device's count: at least as many as the flags set of its events.
+pub fn count_in_range(count: u32, set: u32) -> Result<(), u32> {
+    require((set..=MOST_ACCEPTED).contains(&count), 14)
 }
 
 fn ticket_fields(fields: &mut Fields) -> Result<Ticket, u32> {
@@ -111,8 +111,12 @@ pub fn record(bytes: &[u8]) -> Result<Record, u32> {
         committed.push(field[0] == 1);
         windows.push(window);
     }
-    let accepted = fields.number(2)?;
-    accepted_in_range(accepted, &committed)?;
+    require(fields.number(2)? as usize == DEVICES, 14)?;
+    let mut counts = [0; DEVICES];
+    for (count, set) in counts.iter_mut().zip(flags(&ticket.owners, &committed)) {
+        *count = fields.number(2)?;
+        count_in_range(*count, set)?;
+    }
     require(fields.bytes.is_empty(), 8)?;
-    Ok(Record { ticket, committed, windows, accepted })
+    Ok(Record { ticket, committed, windows, counts })
 }

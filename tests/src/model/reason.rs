@@ -3,9 +3,6 @@
 use super::rings::Step;
 use super::Ticket;
 
-/// How many devices the roster has.
-pub const DEVICES: usize = 5;
-
 fn is_name(bytes: &[u8]) -> bool {
     (1..=16).contains(&bytes.len()) && bytes.iter().all(|byte| (b'a'..=b'z').contains(byte))
 }

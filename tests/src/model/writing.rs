@@ -23,7 +23,10 @@ pub fn record(record: &Record) -> Vec<u8> {
         bytes.extend(window.open.to_le_bytes());
         bytes.extend(window.close.to_le_bytes());
     }
-    bytes.extend((record.accepted as u16).to_le_bytes());
+    bytes.extend((record.counts.len() as u16).to_le_bytes());
+    for count in record.counts {
+        bytes.extend((count as u16).to_le_bytes());
+    }
     bytes
 }
 

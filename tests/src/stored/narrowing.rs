@@ -1,29 +1,41 @@
-//! Narrowing again (02, change 4): runs with the windows after each commitment, worked out by hand; the last number up to
+//! Narrowing again (02, change 4): runs with the windows after each commitment, worked out by hand; a device's count up to
 //! 65,535; refusals in their order.
 
-use super::{record, three_in_sequence, ticket, two_trains, Stored};
-use crate::model::calls::{self, Loose, LooseRecord};
-use crate::model::{reading, writing, Commitment, Record, Solver, Ticket, Window};
+use super::{handed, record, section, three_in_sequence, ticket, two_trains, Stored};
+use crate::model::{calls, reading, writing, Commitment, Record, Ticket, Window, DEVICES};
 use crate::trial::{Lengths, ENOUGH};
 
 /// Event, open and close of a commitment; then the windows after it, or the number that it is refused under.
 type Step<'a> = ((u32, u32, u32), Result<&'a [(u32, u32)], u32>);
 
-/// The bytes of a record without its last number.
-fn but_number(record: &[u8]) -> &[u8] {
-    &record[..record.len().saturating_sub(2)]
+/// The bytes of a record without its counts.
+fn but_counts(record: &[u8]) -> &[u8] {
+    &record[..record.len().saturating_sub(12)]
 }
 
-/// A record from elsewhere: its windows, which of the events are committed, and its last number.
-fn elsewhere(ticket: Ticket, windows: &[(u32, u32)], committed: &[bool], accepted: u32) -> Vec<u8> {
+/// A record from elsewhere: its windows, which of the events are committed, and its counts.
+fn elsewhere(ticket: Ticket, windows: &[(u32, u32)], committed: &[bool], counts: [u32; DEVICES]) -> Vec<u8> {
     let windows = windows.iter().map(|&(open, close)| Window { open, close }).collect();
-    writing::record(&Record { ticket, committed: committed.to_vec(), windows, accepted })
+    writing::record(&Record { ticket, committed: committed.to_vec(), windows, counts })
+}
+
+/// The trains of P1, both owned by the lamps.
+fn lamps_only() -> Ticket {
+    Ticket { owners: vec![2, 2], ..two_trains() }
+}
+
+/// The counts of a record, with one commitment more of this event.
+fn counts_after(record: &[u8], event: u32) -> Result<[u32; DEVICES], u32> {
+    let Record { ticket, mut counts, .. } = reading::record(record)?;
+    let owner = ticket.owners.get(event as usize - 1).ok_or(11u32)?;
+    counts[*owner as usize] += 1;
+    Ok(counts)
 }
 
 impl Stored<'_> {
-    /// The record after these steps from this one. Each that is accepted raises the last number by one.
+    /// The record after these steps from this one. Each that is accepted raises the count of the event's device by one.
     fn run(&mut self, start: &[u8], steps: &[Step], what: &str) -> Vec<u8> {
-        let number = |bytes: &[u8]| reading::record(bytes).map(|record| record.accepted);
+        let counts = |bytes: &[u8]| reading::record(bytes).map(|record| record.counts);
         let mut current = start.to_vec();
         for &((event, open, close), expected) in steps {
             match expected {
@@ -32,19 +44,12 @@ impl Stored<'_> {
                     let after = self.commit(&current, event, open, close);
                     self.windows(&after, windows, what);
                     let after = after.unwrap_or_default();
-                    self.says(number(&after) == number(&current).map(|number| number + 1), "the number rises by one");
+                    self.says(counts(&after) == counts_after(&current, event), "the device's count rises by one");
                     current = after;
                 }
             }
         }
         current
-    }
-
-    /// The number that a commitment is refused under, by the model; the library was compared with it.
-    fn uncommitted(&mut self, record: &[u8], (event, open, close): (u32, u32, u32), number: u32, what: &str) {
-        self.commit(record, event, open, close);
-        let given = calls::commit(record, Commitment { event, open, close }, Solver::Flow);
-        self.says(given.err() == Some(number), what);
     }
 
     /// P1's plan; no bytes if there is none.
@@ -54,7 +59,7 @@ impl Stored<'_> {
 }
 
 /// Event 2 opens no sooner than 8 and 2 before event 1 closes, and closes no later than 4 after event 1 opens. Event 1 comes
-/// to P2's window at once, in two steps and in three: all but the number is P2's each time.
+/// to P2's window at once, in two steps and in three: all but the camera's count is P2's each time.
 pub fn example_1(case: &mut Stored) {
     let plan = case.plan_1();
     let steps: [Step; 3] = [
@@ -66,7 +71,7 @@ pub fn example_1(case: &mut Stored) {
     let in_two = case.run(&plan, &[steps[0], steps[2]], "P1's event 1 narrows again");
     let narrowed = case.run(&plan, &steps, "P1's event 1 narrows twice more");
     for other in [in_two, narrowed.clone()] {
-        case.says(but_number(&other) == but_number(&at_once), "the last window counts");
+        case.says(but_counts(&other) == but_counts(&at_once), "the last window counts");
     }
     // The other event narrows, too: it does not give event 1 anything back.
     let steps: [Step; 3] = [
@@ -77,20 +82,20 @@ pub fn example_1(case: &mut Stored) {
     case.run(&narrowed, &steps, "both of P1's events narrow");
 }
 
-/// On a record just written the same window changes the number alone. On one from elsewhere, free windows may have room.
+/// On a record just written the same window changes the count alone. On one from elsewhere, free windows may have room.
 pub fn same_window(case: &mut Stored) {
     let plan = case.plan_1();
     let first = case.run(&plan, &[((1, 6, 10), Ok(&[(6, 10), (8, 10)]))], "event 1 commits");
     let mut current = first.clone();
-    for number in 2..=300u16 {
+    for count in 2..=300 {
         current = case.run(&current, &[((1, 6, 10), Ok(&[(6, 10), (8, 10)]))], "the same window again");
-        let expected = [but_number(&first), &number.to_le_bytes()].concat();
-        case.says(current == expected, "the number alone changes");
+        let expected = [but_counts(&first), &section([count, 0, 0, 0, 0])].concat();
+        case.says(current == expected, "the camera's count alone changes");
     }
     // Event 2 opens no sooner than 13: 2 before 15.
-    let tick = elsewhere(two_trains(), &[(15, 15), (13, 13)], &[true, false], 1);
+    let tick = elsewhere(two_trains(), &[(15, 15), (13, 13)], &[true, false], [1, 0, 0, 0, 0]);
     case.run(&tick, &[((1, 15, 15), Ok(&[(15, 15), (13, 19)]))], "the same tick, and room beside it");
-    let wide = elsewhere(two_trains(), &[(12, 15), (13, 14)], &[true, false], 7);
+    let wide = elsewhere(two_trains(), &[(12, 15), (13, 14)], &[true, false], [7, 0, 0, 0, 0]);
     case.run(&wide, &[((1, 12, 15), Ok(&[(12, 15), (13, 16)]))], "the same window, and room beside it");
 }
 
@@ -173,15 +178,17 @@ pub fn tick_by_tick(case: &mut Stored) {
         let after: &[(u32, u32)] = &[(100, 1_000 - tick), (0, 100)];
         current = case.run(&current, &[((1, 100, 1_000 - tick), Ok(after))], "the close moves");
     }
-    let number = reading::record(&current).map(|record| record.accepted);
-    case.says(number == Ok(200), "200 commitments of one event");
+    let counts = reading::record(&current).map(|record| record.counts);
+    case.says(counts == Ok([200, 0, 0, 0, 0]), "200 commitments of one event");
 }
 
-/// 18 once the number stands at 65,535, for events that are committed and for free ones. It may stand there at the start.
+/// 18 once the count of the lamps, which own both trains, stands at 65,535, for events that are committed and for free ones.
+/// It may stand there at the start.
 pub fn up_to_the_most(case: &mut Stored) {
     let windows = [(5, 10), (8, 9)];
+    let with_count = |committed: &[bool], count| elsewhere(lamps_only(), &windows, committed, [0, 0, count, 0, 0]);
     for committed in [[true, false], [true, true], [false, false], [false, true]] {
-        let start = elsewhere(two_trains(), &windows, &committed, 65_534);
+        let start = with_count(&committed, 65_534);
         let after: &[(u32, u32)] = if committed[1] { &[(6, 10), (8, 9)] } else { &[(6, 10), (8, 10)] };
         let steps: [Step; 6] = [
             ((1, 4, 10), Err(13)),
@@ -192,14 +199,14 @@ pub fn up_to_the_most(case: &mut Stored) {
             ((2, 9, 9), Err(18)),
         ];
         let last = case.run(&start, &steps, "65,534, then 65,535, then 18");
-        case.says(last.ends_with(&[255, 255]), "65,535 in the last two bytes");
-        let full = elsewhere(two_trains(), &windows, &committed, 65_535);
+        case.says(last.ends_with(&[5, 0, 0, 0, 0, 0, 255, 255, 0, 0, 0, 0]), "65,535 for the lamps");
+        let full = with_count(&committed, 65_535);
         case.run(&full, &[((1, 5, 10), Err(18)), ((2, 9, 9), Err(18))], "65,535 at the start");
     }
-    for (number, next) in [(255, [0, 1]), (256, [1, 1]), (32_767, [0, 128]), (65_279, [0, 255]), (65_533, [254, 255])] {
-        let start = elsewhere(two_trains(), &windows, &[true, false], number);
-        let after = case.run(&start, &[((1, 6, 10), Ok(&[(6, 10), (8, 10)]))], "a number from elsewhere");
-        case.says(after.ends_with(&next), "both bytes of the number");
+    for (count, next) in [(255, [0, 1]), (256, [1, 1]), (32_767, [0, 128]), (65_279, [0, 255]), (65_533, [254, 255])] {
+        let start = with_count(&[true, false], count);
+        let after = case.run(&start, &[((1, 6, 10), Ok(&[(6, 10), (8, 10)]))], "a count from elsewhere");
+        case.says(after.ends_with(&[5, 0, 0, 0, 0, 0, next[0], next[1], 0, 0, 0, 0]), "both bytes of the count");
     }
 }
 
@@ -207,10 +214,10 @@ pub fn up_to_the_most(case: &mut Stored) {
 pub fn refusals(case: &mut Stored) {
     let fit = [(6, 9), (8, 10)];
     for committed in [[false, false], [true, false], [true, true]] {
-        let full = elsewhere(two_trains(), &fit, &committed, 65_535);
+        let full = elsewhere(two_trains(), &fit, &committed, [65_535; 5]);
         let (inside, outside, none) = ((1, 7, 9), (1, 5, 9), (3, 7, 9));
         // Both trains from earliest to latest are not fit.
-        let unfit = elsewhere(two_trains(), &[(5, 15), (8, 19)], &committed, 65_535);
+        let unfit = elsewhere(two_trains(), &[(5, 15), (8, 19)], &committed, [65_535; 5]);
         for commitment in [inside, outside, none, (0, 9, 7)] {
             case.uncommitted(&unfit, commitment, 15, "15 before 11, 13 and 18");
         }
@@ -234,70 +241,52 @@ pub fn refusals(case: &mut Stored) {
         }
     }
     // P8 has no event to commit.
-    case.uncommitted(&elsewhere(ticket(0, &[], &[]), &[], &[], 65_535), (1, 0, 0), 11, "no event, and 65,535");
+    let none = elsewhere(ticket(0, &[], &[]), &[], &[], [65_535; 5]);
+    case.uncommitted(&none, (1, 0, 0), 11, "no event, and 65,535");
     // Fewer than the two flags: before the windows are looked at together, and before what follows.
-    let below = elsewhere(two_trains(), &[(5, 15), (8, 19)], &[true, true], 1);
+    let below = elsewhere(lamps_only(), &[(5, 15), (8, 19)], &[true, true], [0, 0, 1, 0, 0]);
     case.uncommitted(&below, (0, 9, 7), 14, "14 before 15");
     case.uncommitted(&[&below[..], &[0]].concat(), (0, 9, 7), 14, "14 before 8");
 }
 
-/// The last number is read from that of the flags up to 65,535.
-pub fn numbers_read(case: &mut Stored) {
+/// A device's count is read from the number of its flags up to 65,535.
+pub fn counts_read(case: &mut Stored) {
     for events in [0, 1, 2, 39, 40] {
         for set in [0, 1, 2, 38, 39, 40].into_iter().filter(|&set| set <= events) {
             let committed: Vec<bool> = (0..events).map(|k| k < set).collect();
-            for number in (0..=42).chain([254, 255, 256, 257, 295, 296, 32_768, 65_280, 65_534, 65_535]) {
-                let record = elsewhere(ticket(5, &vec![3; events], &[]), &vec![(1, 4); events], &committed, number);
-                let expected = if number < set as u32 { 14 } else { 0 };
+            for count in (0..=42).chain([254, 255, 256, 257, 295, 296, 32_768, 65_280, 65_534, 65_535]) {
+                let (ticket, windows) = (ticket(5, &vec![3; events], &[]), vec![(1, 4); events]);
+                let record = elsewhere(ticket, &windows, &committed, [0, 0, 0, count, 0]);
+                let expected = if count < set as u32 { 14 } else { 0 };
                 case.trial.rewrite_record(&record, calls::RECORD);
                 let given = calls::rewrite_record(&record, &mut vec![0; calls::RECORD]).0;
-                case.says(given == expected, "numbers from the flags up are read");
+                case.says(given == expected, "counts from the flags up are read");
             }
         }
     }
-    let two = |number| elsewhere(ticket(5, &[3, 3], &[]), &[(1, 4), (2, 2)], &[true, true], number);
-    for number in [0, 1] {
-        case.uncommitted(&two(number), (1, 2, 3), 14, "a number below the flags");
+    let windows = [(1, 4), (2, 2)];
+    let two = |count| elsewhere(ticket(5, &[3, 3], &[]), &windows, &[true, true], [0, 0, 0, count, 0]);
+    for count in [0, 1] {
+        case.uncommitted(&two(count), (1, 2, 3), 14, "a count below the flags");
     }
-    for number in [2, 3, 256, 65_534] {
-        case.run(&two(number), &[((1, 2, 3), Ok(&[(2, 3), (2, 2)]))], "a number from the flags up");
+    for count in [2, 3, 256, 65_534] {
+        case.run(&two(count), &[((1, 2, 3), Ok(&[(2, 3), (2, 2)]))], "a count from the flags up");
     }
 }
 
-/// What a caller of writing hands over for the record with this number.
-fn handed(bytes: &[u8], number: u32) -> Option<LooseRecord> {
-    let Record { ticket, committed, windows, .. } = reading::record(bytes).ok()?;
-    let mut ticket_values = Loose {
-        horizon: ticket.horizon,
-        events: ticket.events() as u32,
-        owners: [0; 40],
-        rules: ticket.rules.len() as u32,
-        from: [0; 256],
-        to: [0; 256],
-        bound: [0; 256],
-    };
-    ticket_values.owners[..ticket.events()].copy_from_slice(&ticket.owners);
-    for (k, rule) in ticket.rules.iter().enumerate() {
-        (ticket_values.from[k], ticket_values.to[k], ticket_values.bound[k]) = (rule.from, rule.to, rule.bound);
-    }
-    let mut values = LooseRecord { ticket: ticket_values, flags: [0; 40], opens: [0; 40], closes: [0; 40], number };
-    for (k, window) in windows.iter().enumerate() {
-        (values.flags[k], values.opens[k], values.closes[k]) = (committed[k] as u8, window.open, window.close);
-    }
-    Some(values)
-}
-
-/// What is written is what would be read: a number above 65,535 does not fit its two bytes.
-pub fn numbers_written(case: &mut Stored) {
-    let record = record(two_trains(), &[(5, 10), (8, 9)]);
+/// What is written is what would be read: a count above 65,535 does not fit its two bytes.
+pub fn counts_written(case: &mut Stored) {
+    let record = record(lamps_only(), &[(5, 10), (8, 9)]);
     for set in 0..=2u32 {
-        for number in [0, 1, 2, 3, 256, 65_535, 65_536, 65_537, 65_538, 65_539, 1 << 24, u32::MAX] {
-            let Some(mut values) = handed(&record, number) else { return case.says(false, "P1's plan is read") };
+        for count in [0, 1, 2, 3, 256, 65_535, 65_536, 65_537, 65_538, 65_539, 1 << 24, u32::MAX] {
+            let Some(mut values) = handed(&record, &[0, 0, count, 0, 0]) else {
+                return case.says(false, "a record of P1's trains is read");
+            };
             values.flags[..set as usize].fill(1);
-            let expected = if (set..=65_535).contains(&number) { 0 } else { 14 };
+            let expected = if (set..=65_535).contains(&count) { 0 } else { 14 };
             case.trial.write_record(&values, calls::RECORD);
             let given = calls::write_record(&values, &mut vec![0; calls::RECORD]).0;
-            case.says(given == expected, "numbers that are written");
+            case.says(given == expected, "counts that are written");
         }
     }
 }
