@@ -1,4 +1,5 @@
-// The tests that refuse a call before its windows are sought: too little room, and the causes against a commitment; and the clearing of the scratch that ends each call.
+// The tests that refuse a call before its windows are sought: too little room, and the causes against a commitment; the owner of an event; and the clearing of the scratch that ends each
+// call.
 // Rests on `temporal` for the causes, on `runs` for room and clearing, on `ticket` and `potentials` for the record's struct and arrays, and on `fitness` for the test of its windows.
 
 ghost use mathlib.Core.Path.{_≡_};
