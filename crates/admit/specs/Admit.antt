@@ -1,4 +1,4 @@
--- Adding one demand to a network with no flow. Where no flow runs, a search from node a that ends at node b leaves a potential that has b as low
+-- Adding one demand to a network with no flow, by a lift or by a search. Where no flow runs, a search from node a that ends at node b leaves a potential that has b as low
 -- against a as any potential has it: the links from b to a are edges with no slack.
 use Prim.Native.Nat.{ℕ, zero, suc, _+_, _*_, _-_, _≤_, _<_}
 use mathlib.Core.Path.{_≡_, sym, ap, _∙_}
@@ -10,17 +10,14 @@ use native.Mathlib.Nat.{lt-suc-self}
 use native.Mathlib.Decide.{ℕ-discrete, decLt}
 use lib.ListN.{length, set, replicate}
 use lib.Seq.{getD-set-other}
-use Rattle.network.specs.Lists.{differ, zeros-at}
+use Rattle.network.specs.Lists.{differ, by-zero, zeros-at}
 use Rattle.network.specs.Network.{Meets}
 use Rattle.network.specs.Stored.{at, tailOf, headOf, flowOf, stored}
 use Rattle.network.specs.Edges.{Extends, Put}
 use Rattle.network.specs.Index.{end-tail, index-link, listing-fits}
 use Rattle.search.specs.Tree.{Reached}
-use Rattle.network.specs.Grow.{Growing, extends-meets, flowless-more}
-
--- every potential of the edges below m breaks the demand of an edge from a to b at the biased cost c
-abbrev pub Impossible : List ℕ → ℕ → ℕ → ℕ → ℕ → Type 0
-Impossible net m a b c = (q : ℕ → ℕ) → ((e : ℕ) → e < m → Meets (stored 0 0 net) q e) → q a + c < q b + 1000000
+use Rattle.lift.specs.Lift.{Lifts}
+use Rattle.network.specs.Grow.{Growing, Impossible, extends-meets, flowless-more}
 
 -- a store past the edges keeps it so
 extends-impossible : {net net' : List ℕ} {m : ℕ} → Extends net net' m → (a b c : ℕ) → Impossible net' m a b c → Impossible net m a b c
@@ -60,6 +57,32 @@ pub record Approached (net : List ℕ) (m nodes : ℕ) (pot tails heads : List �
 module _ {net : List ℕ} {m nodes : ℕ} {pot tails heads : List ℕ} (G : Growing net m nodes pot tails heads) where
   pub approached-now : {a b c : ℕ} → at pot b + 1000000 ≤ at pot a + c → Approached net m nodes pot tails heads a b c
   approached-now d = record { growing = G; far = λ l. absurd (omega arith) }
+
+  -- by a lift
+  pub approached-lift : {pot' : List ℕ} {a b c r : ℕ} → Lifts net m nodes pot pot' a b c r → r < 2 → Approached net m nodes pot' tails heads a b c
+  approached-lift {pot'} {r = r} L l = by-zero r
+      (λ z.
+      record {
+        growing =
+            record {
+              flowless =
+                  record {
+                    network = G .flowless .network;
+                    potential =
+                        record {
+                          long = L .long z;
+                          origin = L .origin z;
+                          feasible = L .feasible z;
+                          tight = λ e le p. absurd (omega (arith, G .flowless .flows e le, p));
+                        };
+                    flows = G .flowless .flows;
+                  };
+              by-tail = G .by-tail;
+              by-head = G .by-head;
+            };
+        far = λ k. absurd (omega (arith, k, L .held z));
+      })
+      (λ p. record { growing = rw (L .kept (λ z. omega (arith, p, z))) G; far = λ k. L .impossible (omega (arith, p, l)) })
 
   -- by a search from a with the one goal b
   pub approached-search : {pot' stamp via : List ℕ} (a b c : ℕ) {r : ℕ} → Reached net m nodes pot' stamp via a (set (replicate 81 0) b 1) r → b < nodes

@@ -1,5 +1,5 @@
-// Adds one demand to a difference network with no flow, or finds that no potential meets it: by one search.
-// Rests on crate network, which stores the edges, and on crate search.
+// Adds one demand to a difference network with no flow, or finds that no potential meets it: by a lift, or where that is given up by a search.
+// Rests on crate network, which stores the edges, and on crates lift and search.
 
 ghost use Prim.Native.Nat.{_<_, _≤_};
 ghost use Rattle.network.specs.Grow.{Growing};
@@ -22,24 +22,28 @@ fn approach(
     requires { ⌜ (a < nodes) × (b < nodes) × (c ≤ 2000000) ⌝ }
     ensures { λ _. ⌜ Approached (now (net .entry)) m nodes (now (pot .exit)) (now (tails .entry)) (now (heads .entry)) a b c ⌝ }
 {
-    if pot[a] + c < pot[b] + BIAS {
-        let mut stamp = [0usize; 81];
-        let mut via = [0usize; 81];
-        let mut goal = [0u32; 81];
-        goal[b] = 1;
-        search::reach(
-            net,
-            m,
-            nodes,
-            tails,
-            heads,
-            pot,
-            &mut stamp,
-            &mut via,
-            a,
-            &goal,
-        );
+    if pot[b] + BIAS <= pot[a] + c {
+        return;
     }
+    if lift::lift(net, m, nodes, heads, pot, a, b, c) < 2 {
+        return;
+    }
+    let mut stamp = [0usize; 81];
+    let mut via = [0usize; 81];
+    let mut goal = [0u32; 81];
+    goal[b] = 1;
+    search::reach(
+        net,
+        m,
+        nodes,
+        tails,
+        heads,
+        pot,
+        &mut stamp,
+        &mut via,
+        a,
+        &goal,
+    );
 }
 
 // Store edge m from a to b at the biased cost c. Admit it to the network, with the potential moved as need be, if some potential meets its demand and those of the edges before it.

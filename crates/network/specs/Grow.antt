@@ -22,6 +22,10 @@ pub record Growing (net : List ℕ) (m nodes : ℕ) (pot tails heads : List ℕ)
   pub by-tail : Index net m (2 * nodes - 2) 0 tails
   pub by-head : Index net m (2 * nodes - 2) 1 heads
 
+-- every potential of the edges below m breaks the demand of an edge from a to b at the biased cost c
+abbrev pub Impossible : List ℕ → ℕ → ℕ → ℕ → ℕ → Type 0
+Impossible net m a b c = (q : ℕ → ℕ) → ((e : ℕ) → e < m → Meets (stored 0 0 net) q e) → q a + c < q b + 1000000
+
 -- ---- a store past the edges
 
 module _ {net net' : List ℕ} {m : ℕ} (x : Extends net net' m) where

@@ -75,7 +75,7 @@ fn relax(t: ticket::Ticket, times: &mut [u32; 81]) -> usize
 }
 
 // Add rule j to the network of the points, with the times moved as need be. Whether it can be kept.
-fn admit_rule(
+pub fn admit_rule(
     net: &mut [u32],
     n: usize,
     j: usize,
