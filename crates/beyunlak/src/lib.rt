@@ -1,5 +1,5 @@
-// The six functions that a host program in C calls: planning, the latest plan and commitment on numbers and byte slices, the table of distances, that table
-// after some of its stops, and the reason why a ticket is impossible.
+// The seven functions that a host program in C calls: planning, the latest plan and commitment on numbers and byte slices, the table of distances, that table
+// after some of its stops, the reason why a ticket is impossible, and the mended ticket.
 // The first three hold the scratch that crate `plan` works in, so that number 10 says that the output is too short. Nobody sees it, so it is not cleared.
 ghost use mathlib.Core.Path.{_≡_};
 ghost use mathlib.Core.List.{map};
@@ -9,6 +9,7 @@ ghost use Rattle.temporal.specs.Table.{tableOf};
 ghost use Rattle.table.specs.Lent.{ruleOf};
 ghost use Rattle.stops.specs.After.{tableAfter};
 ghost use Rattle.reasons.specs.Reasoning.{reasoning};
+ghost use Rattle.mending.specs.Mending.{mending};
 use ticket::RECORD_BYTES;
 
 // The scratch of a call; as a call's result it is no list of 1,824 literals in the proofs.
@@ -105,4 +106,16 @@ pub extern "C" fn beyunlak_reason<'a>(
     let explained = reason::reason(ticket, labels, roster, out);
     *length = explained.length;
     explained.number
+}
+
+// The mended ticket at the start of `out`, and the numbers of the dropped rules, after their count, at the start of `dropped`. The answer is 0, or the number of
+// the first cause to refuse.
+#[no_mangle]
+pub extern "C" fn beyunlak_mend(ticket: &[u8], out: &mut [u8], dropped: &mut [u8]) -> u32
+    ensures { λ r. ⌜ r ≡ mending (now (ticket .entry)) (now (out .entry)) (now (dropped .entry)) .number ⌝ }
+    ensures { λ _. ⌜ now (out .exit) ≡ mending (now (ticket .entry)) (now (out .entry)) (now (dropped .entry)) .out ⌝ }
+    ensures { λ _. ⌜ now (dropped .exit) ≡ mending (now (ticket .entry)) (now (out .entry)) (now (dropped .entry)) .list ⌝ }
+{
+    let mended = mend::mend(ticket, out, dropped);
+    mended.number
 }

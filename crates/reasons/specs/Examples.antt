@@ -9,11 +9,9 @@ use lib.Dec.{T}
 use lib.IntN.{pos}
 use lib.ListN.{length}
 use Rattle.temporal.specs.Lists.{All, T-true}
-use Rattle.temporal.specs.Bound.{atMost, above, below}
-use Rattle.temporal.specs.Ticket.{Ticket, events, isSchedule}
-use Rattle.temporal.specs.Distance.{consistent, consistent-has}
-use Rattle.temporal.specs.Ends.{test-schedule}
-use Rattle.temporal.specs.Examples.{minus, ticket1, ticket6, ticket7}
+use Rattle.temporal.specs.Ticket.{Ticket, events}
+use Rattle.temporal.specs.Distance.{consistent}
+use Rattle.temporal.specs.Examples.{minus, ticket1, ticket6, ticket7, consistent1}
 use Rattle.ticket.specs.Parser.{little, many, got, wholly}
 use Rattle.ticket.specs.Format.{readTicket, readOwner, readRule}
 use Rattle.ticket.specs.Writer.{writeTicket, writeRule, bytes, each}
@@ -137,16 +135,12 @@ says7 : ringText (ticket7 (minus 11)) (listBytes (last ∷ [])) roster (1 ∷ 3 
 unfolding ringText pointLine atLine ruleLine signedDecimal line nameAt nameIn listBytes entryBytes ruleAt allRules unwritten
 says7 = rw (decimal-short 1 (omega arith), decimal-short 3 (omega arith), ten, eleven)
 
-possible1 : T (consistent ticket1)
-unfolding isSchedule atMost above below
-possible1 = consistent-has ticket1 .1 (5 ∷ 8 ∷ [], test-schedule ticket1 (5 ∷ 8 ∷ []) tt)
-
 pub examples-hold : All Holds examples
 unfolding readTicket readOwner readRule little many writeTicket writeRule bytes each wellFormed entries named letters listBytes entryBytes over
 examples-hold = (
   λ out room. row-printed (ticket6 (pos 0)) (later ∷ sooner ∷ []) refl refl refl out room text6 (rings.examples-hold .0) says6,
   (
     λ out room. row-printed (ticket7 (minus 11)) (last ∷ []) refl refl refl out room text7 (rings.examples-hold .1 .0) says7,
-    (λ out room. row-possible ticket1 (later ∷ sooner ∷ []) refl refl refl out room possible1, tt),
+    (λ out room. row-possible ticket1 (later ∷ sooner ∷ []) refl refl refl out room consistent1, tt),
   ),
 )

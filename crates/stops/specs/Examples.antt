@@ -12,7 +12,7 @@ use Rattle.temporal.specs.Bound.{atMost, above, below}
 use Rattle.temporal.specs.Ticket.{Ticket, isSchedule}
 use Rattle.temporal.specs.Distance.{consistent, consistent-has}
 use Rattle.temporal.specs.Ends.{test-schedule}
-use Rattle.temporal.specs.Examples.{rule, minus, ticket1}
+use Rattle.temporal.specs.Examples.{rule, minus, ticket1, consistent1}
 use Rattle.ticket.specs.Parser.{little, many, got, wholly}
 use Rattle.ticket.specs.Format.{readTicket, readOwner, readRule}
 use Rattle.ticket.specs.Writer.{writeTicket, writeRule, bytes, each}
@@ -52,10 +52,6 @@ Holds x = (out : List ℤ) → 1681 ≤ length out → tableAfter (writeTicket (
 
 -- ---- every row of the table is what the definitions answer
 
-possible1 : T (consistent ticket1)
-unfolding isSchedule atMost above below
-possible1 = consistent-has ticket1 .1 (5 ∷ 8 ∷ [], test-schedule ticket1 (5 ∷ 8 ∷ []) tt)
-
 possible-late : T (consistent late)
 unfolding isSchedule atMost above below
 possible-late = consistent-has late .1 (0 ∷ 0 ∷ [], test-schedule late (0 ∷ 0 ∷ []) tt)
@@ -67,13 +63,13 @@ row k s read has out room = after-read (writeTicket k) s out room ∙ ap (afterR
 pub examples-hold : All Holds examples
 unfolding readTicket readOwner readRule little many writeTicket writeRule bytes each workingAt shown after ruled plain weight join tab
 examples-hold = (
-  row ticket1 0 refl possible1,
+  row ticket1 0 refl consistent1,
   (
-    row ticket1 1 refl possible1,
+    row ticket1 1 refl consistent1,
     (
-      row ticket1 2 refl possible1,
+      row ticket1 2 refl consistent1,
       (
-        row ticket1 3 refl possible1,
+        row ticket1 3 refl consistent1,
         (row late 0 refl possible-late, (row late 1 refl possible-late, (row late 2 refl possible-late, (row late 3 refl possible-late, tt)))),
       ),
     ),
