@@ -6,6 +6,8 @@
 # make table     its table of distances, with the names of its events; with STOPS=1 the table before the first
 #                stop and after each, from the last event back to the first and then the start
 # make reason    why no times keep its rules, with the names of its events and of the devices in $(ROSTER)
+# make mend      its text without the rules that cannot be kept with those before them, each of which a comment names;
+#                the bytes of the mended ticket are target/mended
 # make install   the header, the library and the pkg-config file, under $(PREFIX)
 PREFIX = /usr/local
 TICKET = examples/tickets/p1.txt
@@ -45,11 +47,16 @@ table: library
 	target/table $(if $(STOPS),stops )<target/ticket | tools/ticket $(if $(STOPS),stops,table) $(TICKET)
 
 # without a TICKET one that has no schedule
-reason: TICKET = examples/tickets/p6-impossible.txt
+reason mend: TICKET = examples/tickets/p6-impossible.txt
 reason: library
 	$(CC) -std=c99 -O2 -Iinclude examples/reason.c $(ARCHIVE) -o target/reason
 	tools/ticket encode $(TICKET) target/ticket target/labels
 	target/reason target/labels $(ROSTER) target/ticket | tools/ticket reason $(TICKET)
+
+mend: library
+	$(CC) -std=c99 -O2 -Iinclude examples/mend.c $(ARCHIVE) -o target/mend
+	tools/ticket encode $(TICKET) target/ticket
+	target/mend target/mended <target/ticket | tools/ticket mended $(TICKET)
 
 install: library
 	install -d $(DESTDIR)$(PREFIX)/include $(DESTDIR)$(PREFIX)/lib/pkgconfig
@@ -57,4 +64,4 @@ install: library
 	install -m 644 $(ARCHIVE) $(DESTDIR)$(PREFIX)/lib
 	sed 's,@PREFIX@,$(PREFIX),' beyunlak.pc.in >$(DESTDIR)$(PREFIX)/lib/pkgconfig/beyunlak.pc
 
-.PHONY: all library program plan latest commit table reason install
+.PHONY: all library program plan latest commit table reason mend install

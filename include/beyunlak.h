@@ -7,7 +7,8 @@
  * beyunlak_commit commits an event to a window inside its own, later to a narrower one, and widens the windows
  * of the free events as far as that allows. beyunlak_table tells how far apart in time any two points can be,
  * and beyunlak_table_after what stands in its table on the way there, stop by stop. beyunlak_reason tells in
- * words why no times keep all rules.
+ * words why no times keep all rules. beyunlak_mend drops from such a ticket each rule that cannot be kept with
+ * those kept before it.
  *
  * Link with libbeyunlak.a. It needs no other library, keeps nothing between two calls, allocates nothing
  * and makes no system call.
@@ -16,8 +17,8 @@
  *   A tick is a tenth of a second. Point 0 is the start of the session, at tick 0. Points 1 to n are the
  *   events. Every event lies between tick 0 and the horizon, without a rule that says so.
  *
- * A TICKET, the input of both plans, of a working table and of a reason. Numbers are unsigned and little-endian
- *   unless noted.
+ * A TICKET, the input of both plans, of a working table, of a reason and of mending, whose first output is a
+ *   ticket too. Numbers are unsigned and little-endian unless noted.
  *     offset       bytes  field
  *     0            4      horizon, 0 to 1,000,000
  *     4            2      n, the number of events, 0 to 40
@@ -105,14 +106,23 @@
  *   To read a ring back, pass over the first line and over every second one after it: in the others the number
  *   stands after "by " and the bound after the next space. So a text tells one list of numbers and bounds only.
  *
+ * A LIST OF DROPPED RULES, the second output of beyunlak_mend. The rules of the ticket handed in have the
+ *   numbers 1 to m, in their order, as in a reason.
+ *     offset   bytes  field
+ *     0        2      d, the number of dropped rules, 0 to m
+ *     2 + 2k   2      the number of a dropped rule, for k from 0 to d - 1; the numbers rise
+ *   A list has 2 + 2d bytes, and the mended ticket m - d rules. Neither length is returned, since d stands in
+ *   the list, and n and the number of rules in the mended ticket.
+ *
  * WHAT IS LEFT IN THE OUTPUT
- *   Answer 0: the record, the table or the text stands at the start of `out`; what lies after it is as it was.
- *   Any other answer: all of `out` is as it was. beyunlak_reason then writes 0 to *length.
+ *   Answer 0: the record, the table, the text or the mended ticket stands at the start of `out`, and the list
+ *   of dropped rules at the start of `dropped`; what lies after each is as it was.
+ *   Any other answer: all of `out` and all of `dropped` is as it was. beyunlak_reason then writes 0 to *length.
  *
  * WHAT A CALLER OWES
  *   - No pointer is null, not even one whose length is 0, and each length is true.
- *   - `out` does not overlap the other memory lent to the call, nor does `length`. For the next commitment,
- *     swap two buffers (see below).
+ *   - `out` does not overlap the other memory lent to the call, nor do `length` and `dropped`. For the next
+ *     commitment, swap two buffers (see below).
  *   - While a call runs, nobody else writes its input or touches its output.
  *   Calls in several threads need no lock where each has memory of its own. Every function ends after a
  *   bounded number of steps, whatever it is given, and uses less than 40 kilobytes of stack (measured; it
@@ -155,8 +165,9 @@ extern "C" {
 #define BEYUNLAK_TICKET_LENGTH(n, m) (8 + (size_t)(n) + 6 * (size_t)(m))
 #define BEYUNLAK_RECORD_LENGTH(n, m) (BEYUNLAK_TICKET_LENGTH(n, m) + 14 + 9 * (size_t)(n))
 
-/* The longest ticket and the longest record. An output holds at least BEYUNLAK_RECORD_MAX bytes, also for a
- * short record: under that the answer is BEYUNLAK_SHORT. */
+/* The longest ticket and the longest record. The output of a record holds at least BEYUNLAK_RECORD_MAX bytes,
+ * that of a mended ticket at least BEYUNLAK_TICKET_MAX, also for short ones: under that the answer is
+ * BEYUNLAK_SHORT. */
 #define BEYUNLAK_TICKET_MAX 1584
 #define BEYUNLAK_RECORD_MAX 1958
 
@@ -174,6 +185,11 @@ extern "C" {
 /* Lists of names: how many letters a name has at most, and how many bytes a list of so many names. */
 #define BEYUNLAK_NAME_MAX 16
 #define BEYUNLAK_NAMES_MAX(count) (2 + (1 + BEYUNLAK_NAME_MAX) * (size_t)(count))
+
+/* Lists of dropped rules: how many bytes a list of d numbers has, and the longest list. The output of a list
+ * holds at least as many as that, also for fewer numbers: under that the answer is BEYUNLAK_SHORT. */
+#define BEYUNLAK_DROPPED_LENGTH(d) (2 + 2 * (size_t)(d))
+#define BEYUNLAK_DROPPED_MAX 514
 
 /* The devices that own events, and how many they are. */
 #define BEYUNLAK_DEVICES 5
@@ -193,11 +209,11 @@ struct beyunlak_rule {
     int32_t bound;
 };
 
-/* The answers. The output's length is tested first. Then the input is read field by field in the order of its
+/* The answers. An output's length is tested first. Then the input is read field by field in the order of its
  * bytes, each field's presence before its value, and the first cause decides. Each rule is a field, each window
- * with its flag, and each count: one that is too low is 14, though the next is cut off. Then come 9 for a
- * ticket, and 15, 11, 13, 18 in this order for a commitment. The orders of both tables and of a reason stand at
- * beyunlak_table, beyunlak_table_after and beyunlak_reason. */
+ * with its flag, and each count: one that is too low is 14, though the next is cut off. Then come 9 for a plan,
+ * and 15, 11, 13, 18 in this order for a commitment. The orders of both tables, of a reason and of mending
+ * stand at beyunlak_table, beyunlak_table_after, beyunlak_reason and beyunlak_mend. */
 enum beyunlak_answer {
     BEYUNLAK_ACCEPTED = 0,
     BEYUNLAK_CUT = 1,        /* the bytes end inside a field */
@@ -209,7 +225,8 @@ enum beyunlak_answer {
     BEYUNLAK_BOUND = 7,      /* a bound is below -1,000,000 or above 1,000,000 */
     BEYUNLAK_TRAILING = 8,   /* bytes follow the end of the ticket or record */
     BEYUNLAK_IMPOSSIBLE = 9, /* no times keep all rules (planning and both tables) */
-    BEYUNLAK_SHORT = 10,     /* the output is shorter than BEYUNLAK_RECORD_MAX, _TABLE_MAX or _REASON_MAX */
+    BEYUNLAK_SHORT = 10,     /* an output is shorter than BEYUNLAK_RECORD_MAX, _TABLE_MAX, _REASON_MAX or, for
+                                mending, _TICKET_MAX or _DROPPED_MAX */
     BEYUNLAK_EVENT = 11,     /* a commitment to event 0 or to one above n */
     BEYUNLAK_COMMITTED = 12, /* no longer answered: a committed event may be committed again */
     BEYUNLAK_WINDOW = 13,    /* open is above close, or they are not inside the event's window */
@@ -275,6 +292,20 @@ uint32_t beyunlak_table_after(const uint8_t *ticket, size_t ticket_len, uint32_t
 uint32_t beyunlak_reason(const uint8_t *ticket, size_t ticket_len, const uint8_t *labels, size_t labels_len,
                          const uint8_t *roster, size_t roster_len, uint8_t *out, size_t out_len,
                          uint32_t *length);
+
+/*
+ * A ticket mended: the mended ticket at the start of `out`, and the list of dropped rules at the start of
+ * `dropped`. Rule by rule, in the ticket's order, a rule is kept if some times keep it together with the rules
+ * kept so far; otherwise it is dropped. The mended ticket has the ticket's horizon, events and owners, and the
+ * kept rules in their order. It has a schedule, so it can be planned; with any one dropped rule put back, in
+ * any place, it has none. A ticket that has a schedule comes out byte for byte, with an empty list, and so does
+ * a mended ticket that is mended again. Where no rule can be kept the mended ticket has no rules.
+ * examples/mend.c is a whole program.
+ * Answers 0, or the first of these that applies: 10 (`out` is shorter than BEYUNLAK_TICKET_MAX, or `dropped`
+ * than BEYUNLAK_DROPPED_MAX), 1 to 8 (the ticket, as in beyunlak_plan). It never answers 9.
+ */
+uint32_t beyunlak_mend(const uint8_t *ticket, size_t ticket_len, uint8_t *out, size_t out_len,
+                       uint8_t *dropped, size_t dropped_len);
 
 #ifdef __cplusplus
 }

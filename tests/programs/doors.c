@@ -1,5 +1,6 @@
-/* The header against the library: every answer under its name, the lengths, what is left in the output, the
- * examples of latest plans and commitments, narrowing again, the counts of the devices, both tables, and reasons.
+/* The header against the library: every answer under its name, the lengths, what is left in the outputs, the
+ * examples of latest plans and commitments, narrowing again, the counts of the devices, both tables, reasons, and
+ * mending.
  * Prints a line a check, "ok NAME" or "FAILED NAME". Called with a word it leaves out what takes long. */
 #include <stdio.h>
 #include <stdlib.h>
@@ -9,6 +10,9 @@
 
 static uint8_t in[4096], out[4096], before[4096];
 static size_t in_len;
+
+/* The second output of mending. */
+static uint8_t dropped[1024], dropped_before[1024];
 
 /* Which of the two plans is asked for, and what stands in front of its checks' names. */
 static uint32_t (*planning)(const uint8_t *, size_t, uint8_t *, size_t) = beyunlak_plan;
@@ -96,6 +100,8 @@ static void fill(void)
 {
     for (size_t i = 0; i < sizeof out; i++)
         out[i] = before[i] = (uint8_t)(i * 7 + 3);
+    for (size_t i = 0; i < sizeof dropped; i++)
+        dropped[i] = dropped_before[i] = (uint8_t)(i * 5 + 1);
 }
 
 static uint32_t plan(size_t out_len)
@@ -115,18 +121,24 @@ static int untouched_from(size_t at)
     return memcmp(out + at, before + at, sizeof out - at) == 0;
 }
 
-static void refuses(const char *name, uint32_t answer, uint32_t wanted)
+static int dropped_untouched_from(size_t at)
 {
-    check(name, answer == wanted && untouched_from(0));
+    return memcmp(dropped + at, dropped_before + at, sizeof dropped - at) == 0;
 }
 
-/* The input is the record that is wanted. */
+static void refuses(const char *name, uint32_t answer, uint32_t wanted)
+{
+    check(name, answer == wanted && untouched_from(0) && dropped_untouched_from(0));
+}
+
+/* The input is the record, or the mended ticket, that is wanted. */
 static void gives(const char *name, uint32_t answer)
 {
     check(name, answer == BEYUNLAK_ACCEPTED && memcmp(out, in, in_len) == 0 && untouched_from(in_len));
 }
 
-static void tickets(void)
+/* Tickets that are refused for what they are, whatever is asked of them. */
+static void malformed(void)
 {
     in_len = 0;
     refuses("1 empty", plan(BEYUNLAK_RECORD_MAX), BEYUNLAK_CUT);
@@ -157,6 +169,11 @@ static void tickets(void)
     trains();
     put(0, 1);
     refuses("8", plan(BEYUNLAK_RECORD_MAX), BEYUNLAK_TRAILING);
+}
+
+static void tickets(void)
+{
+    malformed();
     start(5, 1);
     put(BEYUNLAK_STAGE, 1);
     put(1, 2);
@@ -1123,6 +1140,261 @@ static void longest_reason(void)
     no_reason("a ring of sum 0", BEYUNLAK_POSSIBLE);
 }
 
+/* ---- mending */
+
+static uint32_t mend(size_t out_len, size_t dropped_len)
+{
+    fill();
+    return beyunlak_mend(in, in_len, out, out_len, dropped, dropped_len);
+}
+
+/* Mending in the place of a plan, with the least room for the list. */
+static uint32_t mending(const uint8_t *ticket, size_t ticket_len, uint8_t *to, size_t to_len)
+{
+    return beyunlak_mend(ticket, ticket_len, to, to_len, dropped, BEYUNLAK_DROPPED_MAX);
+}
+
+/* The second output has these numbers, and the rest is as it was. */
+static int listed(const uint32_t *numbers, uint32_t count)
+{
+    int good = dropped[0] == (uint8_t)count && dropped[1] == count >> 8;
+    for (uint32_t k = 0; k < count; k++) {
+        const uint8_t *number = dropped + BEYUNLAK_DROPPED_LENGTH(k);
+        good = good && number[0] == (uint8_t)numbers[k] && number[1] == numbers[k] >> 8;
+    }
+    return good && dropped_untouched_from(BEYUNLAK_DROPPED_LENGTH(count));
+}
+
+static size_t event_count(void)
+{
+    return in[4];
+}
+
+static uint32_t rule_count(void)
+{
+    const uint8_t *at = in + 6 + event_count();
+    return at[0] | (uint32_t)at[1] << 8;
+}
+
+/* The ticket has so many rules, and ends with the last of them. */
+static void set_rules(uint32_t count)
+{
+    in_len = 6 + event_count();
+    put(count, 2);
+    in_len = BEYUNLAK_TICKET_LENGTH(event_count(), count);
+}
+
+/* Take the rules of these numbers out of the ticket and put them into `removed`. */
+static void remove_rules(const uint32_t *numbers, uint32_t count, uint8_t *removed)
+{
+    uint8_t *first = in + BEYUNLAK_TICKET_LENGTH(event_count(), 0), *at = first;
+    const uint32_t m = rule_count();
+    uint32_t next = 0;
+    for (uint32_t k = 1; k <= m; k++) {
+        const int goes = next < count && numbers[next] == k;
+        memmove(goes ? removed + 6 * next : at, first + 6 * (k - 1), 6);
+        next += (uint32_t)goes;
+        at += goes ? 0 : 6;
+    }
+    set_rules(m - count);
+}
+
+/* With any one of these rules put back, after all others or before them, the ticket has no plan. */
+static int impossible_with(const uint8_t *removed, uint32_t count)
+{
+    const uint32_t kept = rule_count();
+    uint8_t *first = in + BEYUNLAK_TICKET_LENGTH(event_count(), 0);
+    int good = 1;
+    for (uint32_t k = 0; k < count; k++) {
+        memcpy(in + in_len, removed + 6 * k, 6);
+        set_rules(kept + 1);
+        good = good && plan(BEYUNLAK_RECORD_MAX) == BEYUNLAK_IMPOSSIBLE;
+        memmove(first + 6, first, 6 * (size_t)kept);
+        memcpy(first, removed + 6 * k, 6);
+        good = good && plan(BEYUNLAK_RECORD_MAX) == BEYUNLAK_IMPOSSIBLE;
+        memmove(first, first + 6, 6 * (size_t)kept);
+        set_rules(kept);
+    }
+    return good;
+}
+
+/* Mending drops these rules of the ticket; and what the header promises of the ticket that is left. */
+static void mends(const char *name, const uint32_t *numbers, uint32_t count)
+{
+    static uint8_t removed[6 * BEYUNLAK_RULES_MAX];
+    char text[80];
+    uint32_t answer = mend(BEYUNLAK_TICKET_MAX, BEYUNLAK_DROPPED_MAX);
+    remove_rules(numbers, count, removed);
+    sprintf(text, "%s, the ticket", name);
+    gives(text, answer);
+    sprintf(text, "%s, the list", name);
+    check(text, listed(numbers, count));
+    sprintf(text, "%s, a plan", name);
+    check(text, plan(BEYUNLAK_RECORD_MAX) == BEYUNLAK_ACCEPTED);
+    answer = mend(sizeof out, sizeof dropped);
+    sprintf(text, "%s, mended again", name);
+    gives(text, answer);
+    sprintf(text, "%s, mended again, the list", name);
+    check(text, listed(NULL, 0));
+    sprintf(text, "%s, each dropped rule put back", name);
+    if (count)
+        check(text, impossible_with(removed, count));
+}
+
+static void mend_lengths(void)
+{
+    const size_t most = BEYUNLAK_TICKET_MAX, list = BEYUNLAK_DROPPED_MAX;
+    char text[80];
+    check("longest list", list == BEYUNLAK_DROPPED_LENGTH(BEYUNLAK_RULES_MAX));
+    for (int ticket = 0; ticket < 3; ticket++) {
+        in_len = 0;
+        if (ticket == 1)
+            trains();
+        if (ticket == 2) {
+            moves(10, 1, 1);
+            rule(1, 0, -11);
+        }
+        for (size_t length = 0; length < most; length += length < 1560 ? 97 : 1) {
+            sprintf(text, "10, ticket %d, outputs of %u and 514 bytes", ticket, (unsigned)length);
+            refuses(text, mend(length, list), BEYUNLAK_SHORT);
+        }
+        for (size_t length = 0; length < list; length += length < 500 ? 37 : 1) {
+            sprintf(text, "10, ticket %d, outputs of 1584 and %u bytes", ticket, (unsigned)length);
+            refuses(text, mend(most, length), BEYUNLAK_SHORT);
+        }
+        refuses("10, both", mend(most - 1, list - 1), BEYUNLAK_SHORT);
+        refuses("10, a long ticket", mend(sizeof out, list - 1), BEYUNLAK_SHORT);
+        refuses("10, a long list", mend(most - 1, sizeof dropped), BEYUNLAK_SHORT);
+    }
+}
+
+/* An impossible ticket: P6 with its second rule a tick tighter. */
+static void tighter(void)
+{
+    moves(10, 2, 2);
+    rule(1, 2, -1);
+    rule(2, 1, 0);
+}
+
+/* P1, P4 and tickets without rules come out as they are; P6 and P7 are a tick tighter here. */
+static void mend_examples(void)
+{
+    static const uint32_t one = 1, two = 2;
+    trains();
+    mends("P1", NULL, 0);
+    moves(5, 3, 2);
+    rule(1, 2, 0);
+    rule(2, 3, 0);
+    mends("P4", NULL, 0);
+    moves(0, 0, 0);
+    mends("P8", NULL, 0);
+    moves(9, 40, 0);
+    mends("no rules", NULL, 0);
+    tighter();
+    mends("P6", &two, 1);
+    moves(10, 1, 1);
+    rule(1, 0, -11);
+    mends("P7", &one, 1);
+    moves(0, 2, 2);
+    rule(1, 2, -1);
+    rule(1, 2, 0);
+    mends("a horizon of 0", &one, 1);
+}
+
+/* Rings of three rules, rules that no times keep, and rules that are kept after dropped ones. */
+static void mend_rings(void)
+{
+    static const uint32_t three = 3, each[] = {1, 2, 3, 4}, some[] = {2, 3, 5};
+    moves(9, 3, 3);
+    rule(3, 2, 0);
+    rule(2, 1, -9);
+    rule(1, 3, 8);
+    mends("a ring of three", &three, 1);
+    moves(9, 3, 3);
+    rule(3, 2, 0);
+    rule(2, 1, -9);
+    rule(1, 3, 9);
+    mends("a ring of sum 0", NULL, 0);
+    moves(5, 2, 4);
+    rule(0, 1, -1);
+    rule(1, 0, -6);
+    rule(2, 0, -BEYUNLAK_BOUND_MAX);
+    rule(0, 2, -BEYUNLAK_BOUND_MAX);
+    mends("each rule impossible of itself", each, 4);
+    /* rules 2 and 3 ask for more than rule 1 allows, rule 5 allows less than rule 4 asks for */
+    moves(20, 2, 6);
+    rule(1, 2, 3);
+    rule(2, 1, -4);
+    rule(2, 1, -5);
+    rule(2, 1, -3);
+    rule(1, 2, 2);
+    rule(1, 2, 3);
+    mends("kept after dropped ones", some, 3);
+}
+
+/* 256 rules: all kept, all dropped, and every other one dropped, so that numbers of two bytes and a list of 514 come. */
+static void mend_longest(void)
+{
+    static uint32_t all[BEYUNLAK_RULES_MAX], even[BEYUNLAK_RULES_MAX / 2];
+    const uint32_t n = BEYUNLAK_EVENTS_MAX, m = BEYUNLAK_RULES_MAX;
+    for (uint32_t k = 0; k < m; k++)
+        all[k] = k + 1;
+    for (uint32_t k = 0; k < m / 2; k++)
+        even[k] = 2 * k + 2;
+    longest_ticket();
+    mends("the longest ticket", NULL, 0);
+    moves(BEYUNLAK_HORIZON_MAX, n, m);
+    for (uint32_t k = 0; k < m; k++)
+        rule(0, k % n + 1, -1 - (int32_t)k);
+    mends("256 rules impossible of themselves", all, m);
+    moves(BEYUNLAK_HORIZON_MAX, n, m);
+    for (uint32_t k = 0; k < m / 2; k++) {
+        rule(k % n, k % n + 1, 10);
+        rule(k % n + 1, k % n, -11);
+    }
+    mends("every other of 256 rules", even, m / 2);
+}
+
+/* Wherever the bytes of a ticket end it is 1, and a byte more is 8. */
+static void mend_bytes(void)
+{
+    tighter();
+    const size_t whole = in_len;
+    int cut = 1;
+    for (in_len = 0; in_len < whole; in_len++)
+        cut = cut && mend(BEYUNLAK_TICKET_MAX, BEYUNLAK_DROPPED_MAX) == BEYUNLAK_CUT && untouched_from(0) &&
+              dropped_untouched_from(0);
+    check("1 wherever the bytes end", cut);
+    put(0, 1);
+    refuses("8 after an impossible ticket", mend(BEYUNLAK_TICKET_MAX, BEYUNLAK_DROPPED_MAX), BEYUNLAK_TRAILING);
+}
+
+/* Memory of just the lengths that are asked for, at any address. */
+static void mend_exact(void)
+{
+    static const uint32_t two = 2;
+    uint8_t removed[6];
+    for (size_t k = 0; k < 4; k++) {
+        uint8_t *ticket = malloc(BEYUNLAK_TICKET_LENGTH(2, 2) + k);
+        uint8_t *to = malloc(BEYUNLAK_TICKET_MAX + k), *list = malloc(BEYUNLAK_DROPPED_MAX + k);
+        tighter();
+        fill();
+        memcpy(ticket + k, in, in_len);
+        memcpy(to + k, out, BEYUNLAK_TICKET_MAX);
+        memcpy(list + k, dropped, BEYUNLAK_DROPPED_MAX);
+        uint32_t answer = beyunlak_mend(ticket + k, in_len, to + k, BEYUNLAK_TICKET_MAX, list + k, BEYUNLAK_DROPPED_MAX);
+        memcpy(out, to + k, BEYUNLAK_TICKET_MAX);
+        memcpy(dropped, list + k, BEYUNLAK_DROPPED_MAX);
+        check("just enough memory, the input", memcmp(ticket + k, in, in_len) == 0);
+        remove_rules(&two, 1, removed);
+        gives("just enough memory, the ticket", answer);
+        check("just enough memory, the list", listed(&two, 1));
+        free(ticket);
+        free(to);
+        free(list);
+    }
+}
+
 int main(int count, char **words)
 {
     (void)words;
@@ -1158,6 +1430,15 @@ int main(int count, char **words)
     reasons_of_lists();
     reasons();
     longest_reason();
+    of = "mend: ";
+    mend_lengths();
+    mend_examples();
+    mend_rings();
+    mend_longest();
+    mend_bytes();
+    mend_exact();
+    planning = mending;
+    malformed();
     planning = beyunlak_plan_latest;
     of = "latest ";
     tickets();

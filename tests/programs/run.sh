@@ -169,6 +169,14 @@ tells() {
     printf '%s\n' "$5" | tr '/' '\n' >"$work/wanted"
     same "$1, $2" "$work/wanted" "$work/got"
 }
+# untold COMMAND NAME TEXT LINES REASON: a program's lines are refused for the reason, and nothing is printed
+untold() {
+    printf '%s\n' "$4" | tr '/' '\n' | tools/ticket "$1" "$3" >"$work/got" 2>"$work/errors"
+    good $(($? != 1)) "$1 refuses $2: exit status"
+    echo "$5" >"$work/wanted"
+    same "$1 refuses $2" "$work/wanted" "$work/errors"
+    if [ -s "$work/got" ]; then fail "$1 refuses $2: wrote to standard output"; else pass; fi
+}
 p1=examples/tickets/p1.txt
 p4=examples/tickets/p4.txt
 p1_told='        start shutter flash/start       0      15    19/shutter    -5       0     4/flash      -8       2     0'
@@ -333,13 +341,7 @@ tells commits 'closes of two lengths' $p1 'record 6 0 0 0 0 0/1 1 5 10/2 1 8 9' 
 tells commits 'refused' $p1 'refused 9' 'refused 9: no times keep all rules' 1
 
 # no_run NAME LINES: the lines are no run on the plan of P1
-no_run() {
-    printf '%s\n' "$2" | tr '/' '\n' | tools/ticket commits $p1 >"$work/got" 2>"$work/errors"
-    good $(($? != 1)) "no run, $1: exit status"
-    echo "this is no run of commitments on the plan of $p1" >"$work/wanted"
-    same "no run, $1" "$work/wanted" "$work/errors"
-    if [ -s "$work/got" ]; then fail "no run, $1: wrote to standard output"; else pass; fi
-}
+no_run() { untold commits "$1" $p1 "$2" "this is no run of commitments on the plan of $p1"; }
 no_run 'nothing' ''
 no_run 'a plan of the program' 'plan 2 6/1 0 5 10/2 2 8 9'
 no_run 'a window missing' 'record 6 0 0 0 0 0/1 0 5 10'
@@ -444,13 +446,7 @@ tools/ticket encode "$work/text" "$work/made" "$work/labels" 2>"$work/errors"
 if [ $? -eq 1 ] && [ ! -e "$work/made" ] && [ ! -e "$work/labels" ] && grep -q "^$work/text:2: " "$work/errors"; then pass; else fail 'encode with labels refuses'; fi
 
 # no_ring NAME TEXT RING: the lines are no ring of the text's rules
-no_ring() {
-    printf '%s\n' "$3" | tr '/' '\n' | tools/ticket reason "$2" >"$work/got" 2>"$work/errors"
-    good $(($? != 1)) "no ring, $1: exit status"
-    echo "this is no ring of the rules of $2" >"$work/wanted"
-    same "no ring, $1" "$work/wanted" "$work/errors"
-    if [ -s "$work/got" ]; then fail "no ring, $1: wrote to standard output"; else pass; fi
-}
+no_ring() { untold reason "$1" "$2" "$3" "this is no ring of the rules of $2"; }
 p6=examples/tickets/p6-impossible.txt
 p7=examples/tickets/p7-impossible.txt
 p6_ring='at later stage/by 1 -1/at sooner stage/by 2 0'
@@ -482,12 +478,81 @@ my_told='at exposure camera/by 2 -50  # line 4: rule exposure to lamps-on: -50/a
 tells reason 'a made label' "$work/my.txt" 'at exposure camera/by 2 -50/at eventa lamps/by 4 0/at start/by 3 40' "$my_told" 0
 no_ring 'a name that is no label' "$work/my.txt" 'at exposure camera/by 2 -50/at lamps-on lamps/by 4 0/at start/by 3 40'
 
+# ---- mended tickets in the text tool
+
+# the same ticket with its last two lines the other way round: of `between` one rule is kept
+sed -n '1,3p;5p' "$work/my.txt" >"$work/turned.txt"
+sed -n 4p "$work/my.txt" >>"$work/turned.txt"
+p6_dropped='# rule sooner to later: 0/# dropped rule 2, line 7: rule sooner to later: 0/# dropped 1 of 2 rules: this ticket can be planned'
+p6_mended="$(head -n 6 $p6 | tr '\n' '/')$p6_dropped"
+p7_mended="$(head -n 4 $p7 | tr '\n' '/')# rule last to start: -11/# dropped rule 1, line 5: rule last to start: -11/# dropped 1 of 1 rules: this ticket can be planned"
+p1_mended="$(tr '\n' '/' <$p1)# dropped none of 6 rules: this ticket can be planned"
+my_events='horizon 60s/event lamps-on lamps/event exposure camera'
+my_mended="$my_events/between lamps-on and exposure: 5s..20s/# between start and exposure: ..4s/# dropped rule 3, line 5: rule start to exposure: 40/# dropped 1 of 3 rules: this ticket can be planned"
+turned_mended="$my_events/between start and exposure: ..4s/# between lamps-on and exposure: 5s..20s/rule lamps-on to exposure: 200/# dropped rule 3, line 5: rule exposure to lamps-on: -50/# dropped 1 of 3 rules: this ticket can be planned"
+tells mended 'P6' $p6 'dropped 2' "$p6_mended" 0
+tells mended 'P7, each rule' $p7 'dropped 1' "$p7_mended" 0
+tells mended 'P1, none' $p1 'dropped' "$p1_mended" 0
+tells mended 'no rules' examples/tickets/p8.txt 'dropped' "$(tr '\n' '/' <examples/tickets/p8.txt)# dropped none of 0 rules: this ticket can be planned" 0
+tells mended 'README' "$work/my.txt" 'dropped 3' "$my_mended" 0
+tells mended 'the second rule of a line' "$work/turned.txt" 'dropped 3' "$turned_mended" 0
+tells mended 'the first rule of a line' "$work/my.txt" 'dropped 1' \
+    "$my_events/# between lamps-on and exposure: 5s..20s/# dropped rule 1, line 4: rule lamps-on to exposure: 200/rule exposure to lamps-on: -50/between start and exposure: ..4s/# dropped 1 of 3 rules: this ticket can be planned" 0
+tells mended 'both rules of a line' "$work/my.txt" 'dropped 1 2' \
+    "$my_events/# between lamps-on and exposure: 5s..20s/# dropped rule 1, line 4: rule lamps-on to exposure: 200/# dropped rule 2, line 4: rule exposure to lamps-on: -50/between start and exposure: ..4s/# dropped 2 of 3 rules: this ticket can be planned" 0
+tells mended 'refused' $p6 'refused 8' 'refused 8: bytes follow the end' 1
+# no_dropped NAME LINES: the lines are no list of rules of P6
+no_dropped() { untold mended "$1" $p6 "$2" "this is no list of rules dropped from $p6"; }
+no_dropped 'nothing' ''
+no_dropped 'number 0' 'dropped 0'
+no_dropped 'a number too high' 'dropped 3'
+no_dropped 'falling numbers' 'dropped 2 1'
+no_dropped 'equal numbers' 'dropped 2 2'
+no_dropped 'a number below 0' 'dropped -1'
+no_dropped 'a word in it' 'dropped two'
+no_dropped 'another word' 'kept 2'
+no_dropped 'a number alone' '2'
+no_dropped 'two lists' 'dropped 1/dropped 2'
+no_dropped 'a line that is empty' 'dropped 2/'
+no_dropped 'a ring' "$p6_ring"
+
+# without TEXT NUMBERS: what is printed without these rules stands for the bytes of the text's ticket without them
+without() {
+    tools/ticket encode "$1" "$work/ticket"
+    # shellcheck disable=SC2086
+    python3 - "$work/ticket" $2 >"$work/wanted" <<'BYTES'
+import sys
+ticket, dropped = open(sys.argv[1], "rb").read(), set(map(int, sys.argv[2:]))
+first = 8 + ticket[4]
+rules = [ticket[at : at + 6] for at in range(first, len(ticket), 6)]
+kept = [rule for number, rule in enumerate(rules, 1) if number not in dropped]
+sys.stdout.buffer.write(ticket[: first - 2] + len(kept).to_bytes(2, "little") + b"".join(kept))
+BYTES
+    # shellcheck disable=SC2086
+    echo dropped $2 | tools/ticket mended "$1" >"$work/mended.txt"
+    tools/ticket encode "$work/mended.txt" "$work/made"
+    same "$1 without the rules '$2'" "$work/wanted" "$work/made"
+}
+# comments, two kinds of line end and of space, forms of `between`, and no line end at the end
+printf '# gr\303\266sse\r\nhorizon 9s\r\n\r\nevent a stage # one\r\n\tevent b lamps\nbetween a and b: 1s..2s # both\r\nrule  start to a :5\n between start and b: ..7#x\nevent c stage\nbetween c and b: -2 .. 2\nbetween c and a: -0.3s..' >"$work/forms.txt"
+for text in $p1 examples/tickets/session.txt "$work/forms.txt"; do
+    tools/ticket encode "$text" "$work/made"
+    rules=$(tools/ticket show "$work/made" | grep -c '^rule ')
+    for numbers in '' "$(seq -s ' ' 1 "$rules")" "$(seq -s ' ' 1 2 "$rules")" "$(seq -s ' ' 2 2 "$rules")"; do
+        without "$text" "$numbers"
+    done
+done
+# what stands in the lines beside the rules is there again
+without "$work/forms.txt" '2 3 7'
+printf '# gr\303\266sse\r\nhorizon 9s\r\n\r\nevent a stage # one\r\n\tevent b lamps\n# between a and b: 1s..2s # both\r\nrule a to b: 20\n# dropped rule 2, line 6: rule b to a: -10\n# rule  start to a :5\n# dropped rule 3, line 7: rule start to a: 5\n between start and b: ..7#x\nevent c stage\nbetween c and b: -2 .. 2\n# between c and a: -0.3s..\n# dropped rule 7, line 11: rule a to c: 3\n# dropped 3 of 7 rules: this ticket can be planned\n' >"$work/wanted"
+same 'mended, comments and line ends' "$work/wanted" "$work/mended.txt"
+
 for number in 12 16 17 18; do
     echo "refused $number" | tools/ticket explain >"$work/got" 2>"$work/errors"
     if [ $? -eq 1 ] && grep -q "^refused $number: ...*" "$work/errors" && [ ! -s "$work/got" ]; then pass; else fail "explain $number"; fi
 done
-for command in 'list' 'reason' 'table' 'stops' 'by' 'by a' 'commits' 'names a b' 'encode a b c d' 'list a b c' 'reason a b c' 'table a b c' \
-    'stops a b c' 'by a b c' 'commits a b c'; do
+for command in 'list' 'reason' 'mended' 'table' 'stops' 'by' 'by a' 'commits' 'names a b' 'encode a b c d' 'list a b c' 'reason a b c' \
+    'mended a b c' 'table a b c' 'stops a b c' 'by a b c' 'commits a b c'; do
     # shellcheck disable=SC2086
     tools/ticket $command >"$work/got" 2>"$work/errors"
     if [ $? -eq 2 ] && [ ! -s "$work/got" ]; then pass; else fail "the wrong call '$command'"; fi
@@ -607,8 +672,39 @@ RUNS
         good $status "reason of $name, with $compiler: exit status"
         same "reason of $name, with $compiler" "$work/wanted" "$work/got"
     done <"$work/reasons"
+    $compiler -std=c99 -Wall -Wextra -Werror -pedantic -Iinclude examples/mend.c "$library" -o "$work/mend"
+    good $? "examples/mend.c with $compiler"
+    # the numbers, and the mended ticket: its bytes, or the ticket itself where no rule is dropped; none where it is refused
+    while IFS='|' read -r name wanted hex; do
+        ticket=examples/tickets/${name% }.ticket
+        wanted=${wanted# } wanted=${wanted% }
+        rm -f "$work/mended"
+        "$work/mend" "$work/mended" <"$ticket" >"$work/got"
+        status=$?
+        case $wanted in
+        refused*) good $((status != 1)) "mend ${name% }, with $compiler: exit status"
+            if [ -e "$work/mended" ]; then fail "mend ${name% }, with $compiler: wrote a ticket"; else pass; fi ;;
+        *) good $status "mend ${name% }, with $compiler: exit status"
+            if [ "$wanted" = dropped ]; then cp "$ticket" "$work/wanted"; else bytes "$hex" >"$work/wanted"; fi
+            same "${name% } mended, with $compiler" "$work/wanted" "$work/mended" ;;
+        esac
+        echo "$wanted" >"$work/wanted"
+        same "mend ${name% }, with $compiler" "$work/wanted" "$work/got"
+    done <<'MENDS'
+p1 | dropped |
+p4 | dropped |
+p6 | dropped |
+p6-impossible | dropped 2 | 0a000000 0200 0303 0100 0102ffffffff
+p7 | dropped |
+p7-impossible | dropped 1 | 0a000000 0100 03 0000
+p8 | dropped |
+p9 | refused 1 |
+p10 | dropped |
+session | dropped |
+MENDS
+    for words in '' 'a b' 'a b c'; do misused mend 'MENDED' "$words"; done
 done
-printf '#include "beyunlak.h"\nint main() { return BEYUNLAK_RECORD_MAX == 1958 && BEYUNLAK_DEVICES == 5 ? 0 : 1; }\n' >"$work/host.cpp"
+printf '#include "beyunlak.h"\nint main() { return BEYUNLAK_RECORD_MAX == 1958 && BEYUNLAK_DEVICES == 5 && BEYUNLAK_DROPPED_MAX == 514 ? 0 : 1; }\n' >"$work/host.cpp"
 g++ -Wall -Wextra -Werror -pedantic -Iinclude "$work/host.cpp" -o "$work/cpp" && "$work/cpp"
 good $? 'beyunlak.h in C++'
 cat >"$work/host.cpp" <<'HOST'
@@ -641,6 +737,21 @@ int main() {
 HOST
 g++ -Wall -Wextra -Werror -pedantic -Iinclude "$work/host.cpp" "$library" -o "$work/cpp" && "$work/cpp"
 good $? 'beyunlak_table_after in C++'
+
+cat >"$work/host.cpp" <<'HOST'
+#include <cstring>
+#include "beyunlak.h"
+int main() {
+    const uint8_t ticket[] = {10, 0, 0, 0, 1, 0, BEYUNLAK_STAGE, 2, 0, 1, 0, 0xf5, 0xff, 0xff, 0xff, 1, 0, 0xf6, 0xff, 0xff, 0xff};
+    const uint8_t mended[] = {10, 0, 0, 0, 1, 0, BEYUNLAK_STAGE, 1, 0, 1, 0, 0xf6, 0xff, 0xff, 0xff}, list[] = {1, 0, 1, 0};
+    uint8_t out[BEYUNLAK_TICKET_MAX], dropped[BEYUNLAK_DROPPED_MAX];
+    if (beyunlak_mend(ticket, sizeof ticket, out, sizeof out, dropped, sizeof dropped) != BEYUNLAK_ACCEPTED) return 1;
+    if (sizeof mended != BEYUNLAK_TICKET_LENGTH(1, 1) || sizeof list != BEYUNLAK_DROPPED_LENGTH(1)) return 1;
+    return std::memcmp(out, mended, sizeof mended) || std::memcmp(dropped, list, sizeof list) ? 1 : 0;
+}
+HOST
+g++ -Wall -Wextra -Werror -pedantic -Iinclude "$work/host.cpp" "$library" -o "$work/cpp" && "$work/cpp"
+good $? 'beyunlak_mend in C++'
 
 # the bytes of a record: plans the ticket on standard input and makes the commitments that the words say
 cat >"$work/record.c" <<'HOST'
@@ -707,6 +818,13 @@ sized commit 's/^ *BEYUNLAK_RECORD_MAX/1957/' 2 8 9 1 10 10
 printf '%s\n' "$p1_plan/commit 2 8 9/refused 10/commit 1 10 10/refused 10" | tr '/' '\n' >"$work/wanted"
 same 'examples/commit.c, commitments with outputs of 1,957 bytes' "$work/wanted" "$work/got"
 
+for room in 'mended.BEYUNLAK_TICKET_MAX|mended[1584|dropped' 'mended.BEYUNLAK_TICKET_MAX|mended[1583|refused 10' \
+    'BEYUNLAK_DROPPED_MAX|514|dropped' 'BEYUNLAK_DROPPED_MAX|513|refused 10'; do
+    sized mend "s|${room%|*}|" "$work/made"
+    echo "${room##*|}" >"$work/wanted"
+    same "examples/mend.c with '${room%|*}'" "$work/wanted" "$work/got"
+done
+
 # a ticket is refused with 9 exactly where it has a ring, and has a plan where the reason is 17
 while IFS='|' read -r number name wanted; do
     plan=$("$planner" <"$work/$number.ticket" | head -n 1)
@@ -717,6 +835,56 @@ while IFS='|' read -r number name wanted; do
     esac
     if [ "$plan" = "$wanted" ]; then pass; else fail "plan and reason of $name"; fi
 done <"$work/reasons"
+
+# mending drops a rule exactly where there is a ring, leaves a ticket that has a plan, and refuses as planning does
+while IFS='|' read -r number name wanted; do
+    got=$("$work/mend" "$work/mended" <"$work/$number.ticket")
+    plan=$("$planner" <"$work/mended" | head -n 1)
+    case $wanted in
+    at*) case $got/$plan in 'dropped '*/plan*) pass ;; *) fail "mend $name" ;; esac ;;
+    'refused 17') if [ "$got" = dropped ]; then pass; else fail "mend $name"; fi
+        same "$name mended" "$work/$number.ticket" "$work/mended" ;;
+    'refused 16') continue ;;
+    *) if [ "$got" = "$wanted" ]; then pass; else fail "mend $name"; fi ;;
+    esac
+done <"$work/reasons"
+
+# mends NAME TEXT NUMBERS: the rules that are dropped from the text's ticket; what the tool then prints stands for the
+# mended ticket's bytes, which have a plan
+mends() {
+    printf '%s\n' "$2" | tr '/' '\n' >"$work/text"
+    tools/ticket encode "$work/text" "$work/ticket"
+    # shellcheck disable=SC2086
+    echo dropped $3 >"$work/wanted"
+    "$work/mend" "$work/mended" <"$work/ticket" >"$work/got"
+    same "mend $1" "$work/wanted" "$work/got"
+    tools/ticket mended "$work/text" "$work/got" >"$work/mended.txt"
+    tools/ticket encode "$work/mended.txt" "$work/made"
+    same "$1 as text" "$work/mended" "$work/made"
+    "$planner" <"$work/mended" | grep -q '^plan '
+    good $? "$1 mended, and planned"
+}
+while IFS='|' read -r name text numbers; do
+    mends "${name% }" "${text# }" "$numbers"
+done <<'MENDS'
+all rules kept | horizon 9/event a stage/event b lamps/between a and b: 1..9 |
+the last of a ring | horizon 9/event a stage/event b lamps/event c camera/rule a to b: -1/rule b to c: -1/rule c to a: 1 | 3
+beyond the session | horizon 9/event a stage/between start and a: 10..12/between a and start: 1..2 | 2 4
+every rule | horizon 9/event a stage/rule start to a: -1/rule a to start: -10 | 1 2
+rules after a dropped one | horizon 9/event a stage/event b lamps/between start and a: 2..3/between a and b: 7..8/between start and b: 4..8 | 5
+two rings that share a rule | horizon 9/event a stage/event b lamps/event c camera/rule a to b: -3/rule b to a: 2/rule b to c: 1/rule c to a: 1/rule b to a: 3 | 2 4
+by way of the horizon | horizon 9/event a stage/event b lamps/event c camera/between a and b: 5../between b and c: 5../between a and c: ..9 | 2
+a horizon of 0 | horizon 0/event a stage/event b lamps/between a and b: 1..2/between a and b: 0..0 | 2
+MENDS
+
+# a ticket that is too long, and files that cannot be written
+printf 'refused 8\n' >"$work/wanted"
+head -c 1048576 /dev/zero | "$work/mend" "$work/mended" >"$work/got"
+same 'mend a megabyte of zeros' "$work/wanted" "$work/got"
+for file in "$work/none/mended" "$work" /dev/full; do
+    "$work/mend" "$file" <examples/tickets/p1.ticket >"$work/got" 2>"$work/errors"
+    if [ $? -eq 2 ] && [ ! -s "$work/got" ] && [ -s "$work/errors" ]; then pass; else fail "mend to '$file'"; fi
+done
 
 # files: the ticket named, files that are too long, files that are not there
 cp examples/tickets/p7-impossible.ticket "$work/ticket"
@@ -761,6 +929,17 @@ echo a b c d e | tools/ticket list - "$work/roster"
 makes reason 'another roster' "$(echo "$p7_told" | sed 's/stage/d/')" 0 TICKET=$p7 ROSTER="$work/roster"
 makes reason 'P1' 'refused 17: there are times that keep all rules, so the ticket can be planned' 2 TICKET=$p1
 makes reason 'a wrong roster' 'refused 16: a list of names breaks its layout' 2 TICKET=$p7 ROSTER="$work/labels"
+makes mend 'no ticket named' "$p6_mended" 0
+makes mend 'P7' "$p7_mended" 0 TICKET=$p7
+makes mend 'P1' "$p1_mended" 0 TICKET=$p1
+makes mend 'docs/TEXT-FORM.md' "$turned_mended" 0 TICKET="$work/turned.txt"
+makes mend 'README' "$my_mended" 0 TICKET="$work/my.txt"
+first_plan='plan 2 150/1 2 0 0/2 0 50 200'
+tools/ticket encode "$work/got" "$work/made"
+same 'target/mended' "$work/made" target/mended
+"$planner" <target/mended >"$work/got"
+printf '%s\n' "$first_plan" | tr '/' '\n' >"$work/wanted"
+same 'the plan of the mended ticket of README.md' "$work/wanted" "$work/got"
 makes table 'no ticket named' "$p1_told" 0
 makes table 'P4' "$p4_told" 0 TICKET=$p4
 makes table 'P7 refused' 'refused 9: no times keep all rules' 2 TICKET=$p7
@@ -800,6 +979,8 @@ stands() {
     good $? "$1 has another text than '${2%%/*} ..'"
 }
 stands README.md "$my_told"
+stands README.md "\$ make -s mend TICKET=my.txt | tail -n 7/$my_mended"
+stands README.md "\$ make -s plan TICKET=mended.txt | tail -n 3/$first_plan"
 stands README.md "\$ make -s commit TICKET=my.txt BY=\"$first_by\" | tail -n 12/$first_told"
 stands README.md "$p1_told"
 stands README.md "$p1_stops_told"
@@ -808,6 +989,8 @@ stands docs/TEXT-FORM.md "$both_shown$(counted 2 0 1 0 0)"
 stands docs/TEXT-FORM.md "$p4_ending"
 stands docs/TEXT-FORM.md "$p6_told"
 stands docs/TEXT-FORM.md "$p7_told"
+stands docs/TEXT-FORM.md "$(sed -n 3,6p $p6 | tr '\n' '/')$p6_dropped"
+stands docs/TEXT-FORM.md "\$ make -s mend TICKET=my.txt | tail -n 8/$turned_mended"
 
 gcc -std=c99 -Wall -Wextra -Werror -pedantic -Iinclude "$here/doors.c" "$library" -o "$work/doors" && "$work/doors" >"$work/got"
 good $? 'tests/programs/doors.c'
@@ -815,7 +998,7 @@ while read -r verdict name; do
     if [ "$verdict" = ok ]; then pass; else fail "doors: $name"; fi
 done <"$work/got"
 
-for program in host 'doors short' table 'table stops' 'commit 1 6 10 1 10 10 1 9 9 2 10 12' 'record 1 6 10 2 8 8'; do
+for program in host 'doors short' table 'table stops' 'commit 1 6 10 1 10 10 1 9 9 2 10 12' 'record 1 6 10 2 8 8' 'mend /dev/null'; do
     # shellcheck disable=SC2086
     valgrind -q --error-exitcode=9 --leak-check=full "$work/"$program <examples/tickets/p1.ticket >/dev/null 2>"$work/errors"
     good $? "$program under valgrind"

@@ -1,13 +1,13 @@
 //! Kinds of cases. One seed gives one case: some tickets or records and the calls on them.
 
 use crate::generate::{self, Structure, STRUCTURES};
-use crate::impossible::{self, SHAPES};
+use crate::impossible::{self, ALL_SHAPES, SHAPES};
 use crate::library::Library;
 use crate::model::calls::{self, Asked, Loose, LooseRecord};
 use crate::model::{flags, reading, rings, writing, Commitment, Prefer, Record, Rule, Solver, Ticket, Window};
 use crate::model::{BOTH, DEVICES, MOST_ACCEPTED};
 use crate::random::Random;
-use crate::trial::{hex, Lengths, Report, Trial, ENOUGH};
+use crate::trial::{hex, Lengths, Outputs, Report, Trial, ENOUGH, LEAST};
 
 #[derive(Clone, Copy, Debug, PartialEq, Eq)]
 pub enum Kind {
@@ -49,9 +49,23 @@ pub enum Kind {
     NarrowingTiny,
     /// Records on which one device may commit once more or no more, and records whose counts are damaged.
     Counts,
+    /// Tickets of all sizes mended, most of them impossible.
+    Mending,
+    /// Tiny tickets mended, expected answers by exhaustive search, which Bellman and Ford's method has to give, too.
+    MendingTiny,
+    /// Damaged and cut tickets mended, and outputs of other lengths.
+    MendingBytes,
 }
 
-pub const KINDS: [Kind; 19] = [
+/// What the calls of a kind are about: reasons and mending have kinds of their own.
+#[derive(Clone, Copy, Debug, PartialEq, Eq)]
+pub enum Subject {
+    Reasons,
+    Mending,
+    Others,
+}
+
+pub const KINDS: [Kind; 22] = [
     Kind::Tiny,
     Kind::Structures,
     Kind::Runs,
@@ -71,6 +85,9 @@ pub const KINDS: [Kind; 19] = [
     Kind::Narrowing,
     Kind::NarrowingTiny,
     Kind::Counts,
+    Kind::Mending,
+    Kind::MendingTiny,
+    Kind::MendingBytes,
 ];
 
 impl Kind {
@@ -95,6 +112,9 @@ impl Kind {
             Kind::Narrowing => "narrowing",
             Kind::NarrowingTiny => "narrowing-tiny",
             Kind::Counts => "counts",
+            Kind::Mending => "mending",
+            Kind::MendingTiny => "mending-tiny",
+            Kind::MendingBytes => "mending-bytes",
         }
     }
 
@@ -105,15 +125,18 @@ impl Kind {
     /// The kind that a long run tries at this seed.
     pub fn at(seed: u64) -> Kind {
         match Random::new(seed ^ 0x6b69_6e64).below(1_000) {
-            0..=109 => Kind::Tiny,
-            110..=269 => Kind::Structures,
-            270..=309 => Kind::Runs,
-            310..=394 => Kind::Foreign,
-            395..=419 => Kind::Counts,
-            420..=449 => Kind::Narrowing,
-            450..=489 => Kind::NarrowingTiny,
-            490..=529 => Kind::Stops,
-            530..=609 => Kind::Damaged,
+            0..=99 => Kind::Tiny,
+            100..=239 => Kind::Structures,
+            240..=279 => Kind::Runs,
+            280..=354 => Kind::Foreign,
+            355..=379 => Kind::Counts,
+            380..=409 => Kind::Narrowing,
+            410..=449 => Kind::NarrowingTiny,
+            450..=489 => Kind::Stops,
+            490..=549 => Kind::Damaged,
+            550..=579 => Kind::Mending,
+            580..=594 => Kind::MendingTiny,
+            595..=609 => Kind::MendingBytes,
             610..=613 => Kind::Prefixes,
             614..=616 => Kind::Lengths,
             617..=639 => Kind::Values,
@@ -127,9 +150,12 @@ impl Kind {
         }
     }
 
-    /// Whether its calls are those for reasons in words.
-    pub fn of_reasons(self) -> bool {
-        matches!(self, Kind::Reason | Kind::ReasonTiny | Kind::ReasonLists)
+    pub fn subject(self) -> Subject {
+        match self {
+            Kind::Reason | Kind::ReasonTiny | Kind::ReasonLists => Subject::Reasons,
+            Kind::Mending | Kind::MendingTiny | Kind::MendingBytes => Subject::Mending,
+            _ => Subject::Others,
+        }
     }
 
     /// The numbers that the quick part has to reach in calls of this kind, beside those of all kinds together.
@@ -145,6 +171,9 @@ impl Kind {
             Kind::Stops => &[0, 1, 2, 3, 4, 5, 6, 7, 8, 9, 10],
             Kind::Narrowing | Kind::NarrowingTiny => &[0, 10, 11, 13, 18],
             Kind::Counts => &[0, 1, 8, 10, 11, 13, 14, 15, 18],
+            Kind::Mending => &[0, 10],
+            Kind::MendingTiny => &[0],
+            Kind::MendingBytes => &[0, 1, 2, 3, 4, 5, 6, 7, 8, 10],
             _ => &[],
         }
     }
@@ -173,6 +202,9 @@ pub fn run(kind: Kind, seed: u64, library: &dyn Library) -> Report {
         Kind::Narrowing => narrowing(&mut trial, seed),
         Kind::NarrowingTiny => narrowing_tiny(&mut trial),
         Kind::Counts => counts(&mut trial, seed),
+        Kind::Mending => mending(&mut trial, seed),
+        Kind::MendingTiny => mending_tiny(&mut trial),
+        Kind::MendingBytes => mending_bytes(&mut trial, seed),
     }
     trial.report
 }
@@ -544,7 +576,7 @@ fn reason(trial: &mut Trial, seed: u64) {
 fn reason_tiny(trial: &mut Trial) {
     trial.solver = Solver::Exhaustive;
     for _ in 0..4 {
-        let ticket = impossible::tiny(&mut trial.random);
+        let ticket = impossible::tiny(&SHAPES, &mut trial.random);
         let asked = impossible::asked(&ticket, &mut trial.random);
         let searched = rings::first(&ticket, Solver::Exhaustive);
         let summed = rings::first(&ticket, Solver::Flow);
@@ -597,6 +629,48 @@ fn stops(trial: &mut Trial, seed: u64) {
     tables_after(trial, &ticket, 6, &[0, 1, n, n + 1, u32::MAX]);
     trial.table_after(&bytes, counts[0], lengths[0]);
     trial.table_after(&damaged, counts[1], lengths[1]);
+}
+
+/// A ticket mended, and what the library's other calls say of it.
+fn mend(trial: &mut Trial, ticket: &Ticket) {
+    let bytes = writing::ticket(ticket);
+    if let Some((mended, list)) = trial.mend(&bytes, LEAST) {
+        trial.is_mended(&bytes, &mended, &list);
+    }
+}
+
+/// A ticket mended, again with its rules in the reverse order, and with outputs of other lengths.
+fn mending(trial: &mut Trial, seed: u64) {
+    let mut ticket = impossible::ticket(ALL_SHAPES[seed as usize % ALL_SHAPES.len()], &mut trial.random);
+    let lengths = some_outputs(&mut trial.random);
+    mend(trial, &ticket);
+    trial.mend(&writing::ticket(&ticket), lengths);
+    ticket.rules.reverse();
+    mend(trial, &ticket);
+}
+
+fn mending_tiny(trial: &mut Trial) {
+    trial.solver = Solver::Exhaustive;
+    for _ in 0..4 {
+        let ticket = impossible::tiny(&ALL_SHAPES, &mut trial.random);
+        mend(trial, &ticket);
+    }
+}
+
+/// A ticket of few events damaged and cut, each time with the least outputs and with others.
+fn mending_bytes(trial: &mut Trial, seed: u64) {
+    let shape = ALL_SHAPES[seed as usize % ALL_SHAPES.len()];
+    let bytes = writing::ticket(&impossible::small(shape, &mut trial.random));
+    for _ in 0..6 {
+        let random = &mut trial.random;
+        let damaged = generate::damaged(&bytes, random);
+        let length = random.below(bytes.len() + 1);
+        let lengths = [(); 2].map(|_| some_outputs(random));
+        for (bytes, lengths) in [&damaged[..], &bytes[..length]].into_iter().zip(lengths) {
+            trial.mend(bytes, LEAST);
+            trial.mend(bytes, lengths);
+        }
+    }
 }
 
 /// What a ticket is made of, not all of it in range.
@@ -749,4 +823,8 @@ fn some_length(least: usize, random: &mut Random) -> usize {
 
 fn some_lengths(random: &mut Random) -> Lengths {
     Lengths { out: some_length(calls::RECORD, random), scratch: some_length(calls::SCRATCH, random) }
+}
+
+fn some_outputs(random: &mut Random) -> Outputs {
+    Outputs { out: some_length(calls::TICKET, random), dropped: some_length(calls::DROPPED, random) }
 }

@@ -2,6 +2,7 @@
 
 use crate::counts_faults::{self, CountsFault};
 use crate::library::{self, Library, Model};
+use crate::mending_faults::{self, MendingFault};
 use crate::mirror;
 use crate::model::calls::{self, Answer, Asked, Loose, LooseRecord, Outcome};
 use crate::model::{
@@ -85,9 +86,11 @@ pub enum Fault {
     Narrowing(NarrowingFault),
     /// A fault of the devices' counts.
     Counts(CountsFault),
+    /// A fault of mending.
+    Mending(MendingFault),
 }
 
-/// All faults but those of reasons, of stops, of narrowing again and of counts.
+/// All faults but those of reasons, of stops, of narrowing again, of counts and of mending.
 pub const FAULTS: [Fault; 32] = [
     Fault::RefusesAll,
     Fault::OnePlan,
@@ -466,6 +469,13 @@ impl Library for Faulty {
         match self.fault {
             Fault::Reason(fault) => reason_faults::reason(fault, asked, out),
             _ => Model.reason(asked, out),
+        }
+    }
+
+    fn mend(&self, ticket: &[u8], out: &mut [u8], dropped: &mut [u8]) -> u32 {
+        match self.fault {
+            Fault::Mending(fault) => mending_faults::mend(fault, ticket, out, dropped),
+            _ => Model.mend(ticket, out, dropped),
         }
     }
 

@@ -1,4 +1,5 @@
-//! What reasons in words are asked for with: tickets in six shapes, most of them impossible, and lists of names, good and bad.
+//! Tickets in eleven shapes, most of them impossible: six for reasons in words, all for mending. And what else a reason is
+//! asked for with: lists of names, good and bad.
 
 use crate::generate::{self, Rules, MOST_RULES, STRUCTURES};
 use crate::model::calls::Asked;
@@ -19,10 +20,35 @@ pub enum Shape {
     Knotted,
     /// The rules of one of the ten structures.
     Structure,
+    /// A path through all points, and rules back from its points to earlier ones: rings of sum -2 and above that share rules.
+    Shared,
+    /// Rings of sum -1, 0 or 1 that share no rule.
+    Apart,
+    /// Rules that cannot be kept even alone, in some tickets a few others among them.
+    Hopeless,
+    /// As many rules as a ticket holds, each kept by one of two lists of times.
+    Mixed,
+    /// Limits of single events around 0, H and a tick between, and rules from event to event that bring two limits together.
+    Limits,
 }
 
+/// The shapes for reasons.
 pub const SHAPES: [Shape; 6] =
     [Shape::Ring, Shape::Layers, Shape::Opposed, Shape::Crowded, Shape::Knotted, Shape::Structure];
+
+pub const ALL_SHAPES: [Shape; 11] = [
+    Shape::Ring,
+    Shape::Layers,
+    Shape::Opposed,
+    Shape::Crowded,
+    Shape::Knotted,
+    Shape::Structure,
+    Shape::Shared,
+    Shape::Apart,
+    Shape::Hopeless,
+    Shape::Mixed,
+    Shape::Limits,
+];
 
 /// A ticket of this shape with up to 40 events.
 pub fn ticket(shape: Shape, random: &mut Random) -> Ticket {
@@ -36,9 +62,10 @@ pub fn small(shape: Shape, random: &mut Random) -> Ticket {
     shaped(shape, n, 10, 30, random)
 }
 
-/// A ticket with so few events and rules that every walk can be tried, and so few ticks that every schedule can.
-pub fn tiny(random: &mut Random) -> Ticket {
-    let shape = random.pick(&SHAPES);
+/// A ticket of one of these shapes with so few events and rules that every walk can be tried, and so few ticks that every
+/// schedule can.
+pub fn tiny(shapes: &[Shape], random: &mut Random) -> Ticket {
+    let shape = random.pick(shapes);
     let (n, horizon) = random.pick(&[(0, 3), (1, 6), (2, 0), (2, 1), (2, 7), (3, 3), (3, 5), (4, 2), (4, 4), (4, 5)]);
     let most = random.pick(&[5, 8, 12, 12]);
     shaped(shape, n, horizon, most, random)
@@ -59,6 +86,11 @@ fn shaped(shape: Shape, n: usize, horizon: u32, most: usize, random: &mut Random
         Shape::Crowded => crowded(&mut rules, n, h, random),
         Shape::Knotted => knotted(&mut rules, &times, random),
         Shape::Structure => rules.list = generate::ticket(random.pick(&STRUCTURES), n, horizon, random).rules,
+        Shape::Shared => shared(&mut rules, &times, random),
+        Shape::Apart => apart(&mut rules, &times, random),
+        Shape::Hopeless => hopeless(&mut rules, &times, h, random),
+        Shape::Mixed => mixed(&mut rules, &times, h, random),
+        Shape::Limits => limits(&mut rules, &times, h, random),
     }
     rules.list.truncate(most);
     let order = random.order(rules.list.len());
@@ -154,6 +186,71 @@ fn knotted(rules: &mut Rules, times: &[i64], random: &mut Random) {
     for _ in 0..random.pick(&[times.len(), 3 * times.len(), MOST_RULES]) {
         let (i, j) = (random.below(times.len()), random.below(times.len()));
         rules.at_most(i, j, times[j] - times[i] + random.between(least, 3));
+    }
+}
+
+fn shared(rules: &mut Rules, times: &[i64], random: &mut Random) {
+    let points = times.len();
+    let order = random.order(points);
+    for pair in order.windows(2) {
+        rules.at_most(pair[0], pair[1], times[pair[1]] - times[pair[0]] + random.pick(&[0, 0, 0, 1]));
+    }
+    for _ in 0..random.pick(&[2, points, 2 * points, MOST_RULES]) {
+        let (a, b) = (random.below(points), random.below(points));
+        let (i, j) = (order[a.max(b)], order[a.min(b)]);
+        rules.at_most(i, j, times[j] - times[i] + random.between(-2, 1));
+    }
+}
+
+fn apart(rules: &mut Rules, times: &[i64], random: &mut Random) {
+    for _ in 0..random.pick(&[1, 2, 5]) {
+        let order = random.order(times.len());
+        for ring in order.chunks(random.pick(&[2, 3, 5, 12])) {
+            let (odd, sum) = (random.below(ring.len()), random.between(-1, 1));
+            for (k, &i) in ring.iter().enumerate() {
+                let j = ring[(k + 1) % ring.len()];
+                rules.at_most(i, j, times[j] - times[i] + if k == odd { sum } else { 0 });
+            }
+        }
+    }
+}
+
+/// A difference of two times is -H or more, and a time 0 or more. At the greatest horizon a rule with -H - 1 cannot be
+/// written; it is cut to -H, and two of these may conflict.
+fn hopeless(rules: &mut Rules, times: &[i64], h: i64, random: &mut Random) {
+    let points = times.len();
+    for _ in 0..random.pick(&[1, points, 3 * MOST_RULES]) {
+        let (i, j) = (random.below(points), random.below(points));
+        let least = if i == 0 { 0 } else { -h };
+        rules.at_most(i, j, least - 1 - random.pick(&[0, 0, 1, h]));
+    }
+    let count = random.pick(&[0, 0, 3]);
+    rules.list.truncate(MOST_RULES - count);
+    kept(rules, times, count, 0, h, random);
+}
+
+fn mixed(rules: &mut Rules, times: &[i64], h: i64, random: &mut Random) {
+    let others: Vec<i64> = times.iter().map(|&time| if time == 0 { 0 } else { random.between(0, h) }).collect();
+    let room = random.pick(&[0, 1, h / 20]);
+    for _ in 0..3 * MOST_RULES {
+        let (i, j) = (random.below(times.len()), random.below(times.len()));
+        let times = random.pick(&[times, &others[..]]);
+        rules.at_most(i, j, times[j] - times[i] + random.between(0, room));
+    }
+}
+
+fn limits(rules: &mut Rules, times: &[i64], h: i64, random: &mut Random) {
+    for event in 1..times.len() {
+        for _ in 0..random.below(4) {
+            let time = random.pick(&[0, h, times[event]]) + random.between(-1, 1);
+            if random.chance(50) {
+                rules.at_most(0, event, time);
+            } else {
+                rules.at_most(event, 0, -time);
+            }
+        }
+        let other = random.below(times.len());
+        rules.at_most(event, other, random.pick(&[-h, 0, h]) + random.between(-1, 1));
     }
 }
 

@@ -29,6 +29,9 @@ pub trait Library: Sync {
     /// The C door of the reason in words: number and length.
     fn reason(&self, asked: &Asked, out: &mut [u8]) -> (u32, u32);
 
+    /// The C door of mending: the mended ticket to one output, the list of dropped rules to the other.
+    fn mend(&self, ticket: &[u8], out: &mut [u8], dropped: &mut [u8]) -> u32;
+
     /// What the program prints for these bytes, with the word `latest` where that is preferred.
     fn printed(&self, prefer: Prefer, ticket: &[u8]) -> String;
 }
@@ -87,6 +90,10 @@ impl Library for Model {
 
     fn reason(&self, asked: &Asked, out: &mut [u8]) -> (u32, u32) {
         calls::reason(asked, out, Solver::Flow)
+    }
+
+    fn mend(&self, ticket: &[u8], out: &mut [u8], dropped: &mut [u8]) -> u32 {
+        calls::hand_out(|| calls::mend(ticket, Solver::Flow), out, dropped).0
     }
 
     fn printed(&self, prefer: Prefer, ticket: &[u8]) -> String {

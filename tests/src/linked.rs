@@ -46,6 +46,14 @@ extern "C" {
         out_len: usize,
         length: *mut u32,
     ) -> u32;
+    fn beyunlak_mend(
+        ticket: *const u8,
+        ticket_len: usize,
+        out: *mut u8,
+        out_len: usize,
+        dropped: *mut u8,
+        dropped_len: usize,
+    ) -> u32;
     fn harness_plan(
         ticket: *const u8,
         ticket_len: usize,
@@ -312,6 +320,11 @@ impl Library for Linked {
             )
         };
         (number, length)
+    }
+
+    fn mend(&self, ticket: &[u8], out: &mut [u8], dropped: &mut [u8]) -> u32 {
+        let (bytes, length) = (ticket.as_ptr(), ticket.len());
+        unsafe { beyunlak_mend(bytes, length, out.as_mut_ptr(), out.len(), dropped.as_mut_ptr(), dropped.len()) }
     }
 
     fn printed(&self, prefer: Prefer, ticket: &[u8]) -> String {

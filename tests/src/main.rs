@@ -9,6 +9,7 @@ mod lent;
 mod library;
 #[cfg(linked)]
 mod linked;
+mod mending_faults;
 mod mirror;
 mod model;
 mod narrowing_faults;
@@ -19,10 +20,11 @@ mod stop_faults;
 mod stored;
 mod trial;
 
-use cases::{Kind, KINDS};
+use cases::{Kind, Subject, KINDS};
 use counts_faults::COUNTS_FAULTS;
 use faults::{Fault, Faulty, FAULTS};
 use library::Library;
+use mending_faults::MENDING_FAULTS;
 use narrowing_faults::NARROWING_FAULTS;
 use reason_faults::REASON_FAULTS;
 use std::sync::atomic::{AtomicU64, Ordering};
@@ -32,7 +34,7 @@ use stop_faults::STOP_FAULTS;
 use trial::{Report, NUMBERS};
 
 /// How many seeds of each kind the quick part tries.
-const QUICK: [(Kind, u64); 19] = [
+const QUICK: [(Kind, u64); 22] = [
     (Kind::Tiny, 3_000),
     (Kind::Structures, 3_000),
     (Kind::Runs, 100),
@@ -52,14 +54,18 @@ const QUICK: [(Kind, u64); 19] = [
     (Kind::Narrowing, 250),
     (Kind::NarrowingTiny, 2_000),
     (Kind::Counts, 1_500),
+    (Kind::Mending, 5_000),
+    (Kind::MendingTiny, 4_000),
+    (Kind::MendingBytes, 2_000),
 ];
 
 const USAGE: &str = "\
 tests/run quick                      stored cases and some thousand seeds: the gate's part
-tests/run long SEED COUNT [THREADS]  seeds from SEED on until COUNT calls are made
+tests/run long SEED COUNT [THREADS [KIND ..]]
+                                     seeds from SEED on until COUNT calls are made, of all kinds or of those named
 tests/run one KIND SEED              one case: tiny structures runs foreign damaged prefixes lengths values records text
                                      latest latest-tiny reason reason-tiny reason-lists stops narrowing
-                                     narrowing-tiny counts
+                                     narrowing-tiny counts mending mending-tiny mending-bytes
 tests/run solvers SEED COUNT         the solvers of the model against each other
 tests/run self-check                 libraries with a planted fault: each has to be caught";
 
@@ -199,19 +205,22 @@ fn quick(library: &dyn Library) -> i32 {
     all.last_line()
 }
 
-/// Blocks of seeds until enough calls are made; after each block a line to go on from.
-fn long(library: &dyn Library, seed: u64, count: u64, threads: usize) -> i32 {
+/// Blocks of seeds until enough calls are made, each seed of one of these kinds in turn if there are any; after each block a
+/// line to go on from.
+fn long(library: &dyn Library, seed: u64, count: u64, threads: usize, kinds: &[Kind]) -> i32 {
     const BLOCK: u64 = 5_000;
     let start = Instant::now();
     let mut all = Tally::default();
     let mut next = seed;
+    let kind = |seed: u64| if kinds.is_empty() { Kind::at(seed) } else { kinds[seed as usize % kinds.len()] };
+    let named: String = kinds.iter().map(|kind| format!(" {}", kind.name())).collect();
     while all.calls < count && all.failed == 0 {
-        all.join(try_seeds(library, next..next + BLOCK, threads, Kind::at));
+        all.join(try_seeds(library, next..next + BLOCK, threads, kind));
         next += BLOCK;
         let left = count.saturating_sub(all.calls);
         let seconds = start.elapsed().as_secs_f64();
         println!(
-            "{} calls, {} failed, {seconds:.0} s; go on with: tests/run long {next} {left}",
+            "{} calls, {} failed, {seconds:.0} s; go on with: tests/run long {next} {left} {threads}{named}",
             all.calls, all.failed
         );
     }
@@ -226,7 +235,8 @@ fn self_check() -> i32 {
     let mut all = Tally::default();
     let of_calls = REASON_FAULTS.map(Fault::Reason).into_iter().chain(STOP_FAULTS.map(Fault::Stops));
     let of_records = NARROWING_FAULTS.map(Fault::Narrowing).into_iter().chain(COUNTS_FAULTS.map(Fault::Counts));
-    for fault in FAULTS.into_iter().chain(of_calls).chain(of_records) {
+    let of_mending = MENDING_FAULTS.map(Fault::Mending);
+    for fault in FAULTS.into_iter().chain(of_calls).chain(of_records).chain(of_mending) {
         let library = Faulty { fault };
         let mut caught: Vec<String> = Vec::new();
         for case in &stored::CASES {
@@ -235,9 +245,12 @@ fn self_check() -> i32 {
                 break;
             }
         }
-        // The call for reasons is made by kinds of its own.
-        let of_reasons = matches!(fault, Fault::Reason(_));
-        for kind in KINDS.into_iter().filter(|kind| kind.of_reasons() == of_reasons) {
+        let subject = match fault {
+            Fault::Reason(_) => Subject::Reasons,
+            Fault::Mending(_) => Subject::Mending,
+            _ => Subject::Others,
+        };
+        for kind in KINDS.into_iter().filter(|kind| kind.subject() == subject) {
             let seeds = QUICK.iter().find(|(k, _)| *k == kind).map_or(0, |(_, count)| *count).min(300);
             let first = (1..=seeds).find(|&seed| !cases::run(kind, seed, &library).differences.is_empty());
             if let Some(seed) = first {
@@ -285,13 +298,16 @@ fn main() {
     let status = match words[..] {
         ["quick"] => quick(library()),
         ["self-check" | "--self-check"] => self_check(),
-        ["long", seed, count] | ["long", seed, count, _] => match (number(seed), number(count)) {
-            (Some(seed), Some(count)) => {
-                let threads = words.get(3).and_then(|word| word.parse().ok()).unwrap_or(2);
-                long(library(), seed, count, threads)
+        ["long", seed, count, ref rest @ ..] => {
+            let threads = rest.first().map_or(Some(2), |word| number(word));
+            let kinds: Option<Vec<Kind>> = rest.iter().skip(1).map(|word| Kind::named(word)).collect();
+            match (number(seed), number(count), threads, kinds) {
+                (Some(seed), Some(count), Some(threads), Some(kinds)) => {
+                    long(library(), seed, count, threads as usize, &kinds)
+                }
+                _ => 2,
             }
-            _ => 2,
-        },
+        }
         ["one", kind, seed] => number(seed).map_or(2, |seed| one(library(), kind, seed)),
         ["solvers", seed, count] => match (number(seed), number(count)) {
             (Some(seed), Some(count)) => compare_solvers(seed, count),

@@ -1,13 +1,13 @@
 //! The model against itself: exhaustive search and flow on tiny tickets and records, tables by enumeration
 //! and by shortest paths, the latest plan against the mirror of 02 on tickets of all sizes, rings out of all walks and by
-//! least sums of walks, shortest paths over stops in rounds and out of all paths, and bytes that come back from reading
-//! and writing.
+//! least sums of walks, shortest paths over stops in rounds and out of all paths, mending by schedules and by rings, and
+//! bytes that come back from reading and writing.
 
 use crate::generate::{self, STRUCTURES};
-use crate::impossible::{self, SHAPES};
+use crate::impossible::{self, ALL_SHAPES, SHAPES};
 use crate::mirror;
 use crate::model::calls::{self, Outcome};
-use crate::model::{distances, exhaustive, reading, reason, rings, stops, writing, Prefer, Solver, Ticket};
+use crate::model::{distances, exhaustive, mending, reading, reason, rings, stops, writing, Prefer, Solver, Ticket};
 use crate::model::{BOTH, DEVICES};
 use crate::random::Random;
 
@@ -80,6 +80,28 @@ fn stopped(seed: u64, ticket: &Ticket, table: Option<Vec<Vec<i64>>>, differences
     }
 }
 
+/// Mending with each step decided by shortest paths against by the lack of a ring; of tiny tickets also by enumeration.
+fn mended(seed: u64, ticket: &Ticket, tiny: bool, differences: &mut Vec<String>) {
+    let by_paths = mending::walked(ticket, distances::has_schedule);
+    let by_rings = mending::walked(ticket, |kept| rings::first(kept, Solver::Flow).is_none());
+    if by_paths != by_rings {
+        differences.push(format!("mending at seed {seed}: by paths {by_paths:?}, by rings {by_rings:?}"));
+    }
+    if tiny && by_paths != mending::walked(ticket, exhaustive::has_schedule) {
+        differences.push(format!("mending at seed {seed}: by paths {by_paths:?}, by enumeration another"));
+    }
+}
+
+/// Rings, their texts, and mending, of tickets most of which have no schedule.
+fn without_schedule(seed: u64, random: &mut Random, differences: &mut Vec<String>) {
+    ringed(seed, &impossible::tiny(&SHAPES, random), true, differences);
+    let larger = impossible::ticket(SHAPES[seed as usize % SHAPES.len()], random);
+    ringed(seed, &larger, false, differences);
+    reworded(seed, &larger, random, differences);
+    mended(seed, &impossible::tiny(&ALL_SHAPES, random), true, differences);
+    mended(seed, &impossible::small(ALL_SHAPES[seed as usize % ALL_SHAPES.len()], random), false, differences);
+}
+
 /// How many tickets and records were tried, and where the ways differ.
 pub fn compare(first: u64, count: u64) -> (u64, Vec<String>) {
     let mut differences = Vec::new();
@@ -116,13 +138,10 @@ pub fn compare(first: u64, count: u64) -> (u64, Vec<String>) {
         let (n, horizon) = generate::size(random);
         let structure = STRUCTURES[seed as usize % STRUCTURES.len()];
         mirrored(seed, &generate::ticket(structure, n, horizon, random), &mut differences);
-        ringed(seed, &impossible::tiny(random), true, &mut differences);
-        let larger = impossible::ticket(SHAPES[seed as usize % SHAPES.len()], random);
-        ringed(seed, &larger, false, &mut differences);
-        reworded(seed, &larger, random, &mut differences);
+        without_schedule(seed, random, &mut differences);
         let small = generate::ticket(structure, random.below(7), horizon, random);
         stopped(seed, &small, distances::table(&small), &mut differences);
-        tried += 5;
+        tried += 7;
     }
     (tried, differences)
 }

@@ -2,6 +2,7 @@
 //! Each is also compared with the model. "Says" lines are the source's statement, in our words.
 
 mod counts;
+mod mending;
 mod narrowing;
 mod reasons;
 mod stops;
@@ -14,7 +15,7 @@ use crate::trial::{Lengths, Report, Trial, ENOUGH};
 /// A name and what it tries.
 type Case = (&'static str, fn(&mut Stored));
 
-pub const CASES: [Case; 65] = [
+pub const CASES: [Case; 73] = [
     ("01, P1 and P2", example_1_2),
     ("01, P3", example_3),
     ("01, P4 and P5", example_4_5),
@@ -68,6 +69,14 @@ pub const CASES: [Case; 65] = [
     ("02, change 5: the largest record", counts::largest),
     ("02, change 5: both bytes of each count", counts::both_bytes),
     ("02, change 5: counts that are written", counts::written),
+    ("02, change 6: P6 and P7 that are impossible", mending::examples),
+    ("02, change 6: tickets with a schedule", mending::unchanged),
+    ("02, change 6: rings", mending::rings),
+    ("02, change 6: rules after a dropped one", mending::later),
+    ("02, change 6: rings by way of 0 and H", mending::limits),
+    ("02, change 6: 256 rules", mending::many),
+    ("02, change 6: a ring through all points", mending::all_points),
+    ("02, change 6: refusals in their order", mending::refusals),
     ("000, examples 1 and 2: trains", trains),
     ("000, example 3: earliest to latest", trains_earliest_to_latest),
     ("000, examples 4 to 6: a train commits", trains_commitment),
@@ -374,6 +383,61 @@ fn unread() -> Vec<(Vec<u8>, u32)> {
         (with_rule((0, 1, 1_000_001)), 7),
         (with_rule((1, 0, -1_000_001)), 7),
         (longer, 8),
+    ]
+}
+
+/// Bytes with several fields wrong, or with the last one cut, and their numbers: each field in its order, its presence before
+/// its value.
+fn wrong_fields() -> Vec<(Vec<u8>, u32)> {
+    let mut wrong = fields_in_order();
+    wrong.extend(whole_fields());
+    wrong.extend(rules_in_order());
+    wrong
+}
+
+/// A ticket with all fields wrong and a byte after its end, put right field by field.
+fn fields_in_order() -> Vec<(Vec<u8>, u32)> {
+    let wrong = ticket(1_000_001, &[5; 41], &[(1, 1, 1_000_001); 257]);
+    let tickets = [
+        (wrong.clone(), 2),
+        (Ticket { horizon: 5, ..wrong }, 3),
+        (ticket(5, &[5; 40], &[(1, 1, 1_000_001); 257]), 4),
+        (ticket(5, &[0; 40], &[(1, 1, 1_000_001); 257]), 5),
+        (ticket(5, &[0; 40], &[(1, 1, 1_000_001); 256]), 6),
+        (ticket(5, &[0; 40], &[(0, 1, 1_000_001); 256]), 7),
+        (ticket(5, &[0; 40], &[(0, 1, -1); 256]), 8),
+    ];
+    tickets.into_iter().map(|(of, number)| ([&writing::ticket(&of)[..], &[0]].concat(), number)).collect()
+}
+
+/// A wrong field is 1 until its last byte is there.
+fn whole_fields() -> Vec<(Vec<u8>, u32)> {
+    let ends = [
+        (writing::ticket(&ticket(1_000_001, &[], &[])), 4, 2),
+        (writing::ticket(&ticket(5, &[0; 41], &[])), 6, 3),
+        (writing::ticket(&ticket(5, &[0, 5], &[])), 8, 4),
+        (writing::ticket(&ticket(5, &[0], &[(0, 1, 5); 257])), 9, 5),
+        (with_rule((1, 1, 1_000_001)), 15, 6),
+        (with_rule((0, 1, 1_000_001)), 15, 7),
+    ];
+    let prefixes = ends.iter().flat_map(|(bytes, end, number)| {
+        (0..=*end).map(|length| (bytes[..length].to_vec(), if length < *end { 1 } else { *number }))
+    });
+    prefixes.collect()
+}
+
+/// 6 before 7 in a rule, and the first wrong rule before another.
+fn rules_in_order() -> Vec<(Vec<u8>, u32)> {
+    let answers =
+        |owners: &[u8], rules: &[(u8, u8, i32)], number: u32| (writing::ticket(&ticket(5, owners, rules)), number);
+    vec![
+        answers(&[0], &[(0, 2, 1_000_001)], 6),
+        answers(&[0], &[(2, 0, 5)], 6),
+        answers(&[], &[(0, 0, 0)], 6),
+        answers(&[0], &[(0, 1, 1_000_001), (1, 1, 5)], 7),
+        answers(&[0], &[(0, 1, -1_000_001), (0, 2, 5)], 7),
+        answers(&[0], &[(0, 1, -1), (0, 2, 5)], 6),
+        answers(&[0], &[(0, 1, -1), (1, 0, i32::MAX)], 7),
     ]
 }
 

@@ -7,6 +7,7 @@ use crate::model::rings::{self, Step};
 use crate::model::stops::NO_PATH;
 use crate::model::{reading, reason, text, writing, Commitment, Prefer, Record, Rule, Solver, Ticket, DEVICES};
 use crate::random::Random;
+use std::fmt::Debug;
 
 /// Numbers answered: 0 to 18.
 pub const NUMBERS: usize = 19;
@@ -35,6 +36,15 @@ pub struct Lengths {
 }
 
 pub const ENOUGH: Lengths = Lengths { out: calls::RECORD, scratch: calls::SCRATCH };
+
+/// How long the outputs of mending are: the ticket's, and that of the list of dropped rules.
+#[derive(Clone, Copy, Debug)]
+pub struct Outputs {
+    pub out: usize,
+    pub dropped: usize,
+}
+
+pub const LEAST: Outputs = Outputs { out: calls::TICKET, dropped: calls::DROPPED };
 
 pub fn hex(bytes: &[u8]) -> String {
     bytes.iter().map(|byte| format!("{byte:02x}")).collect()
@@ -119,7 +129,7 @@ impl<'a> Trial<'a> {
     }
 
     /// What the model says. Where it searches, flow has to say the same.
-    fn expected(&mut self, call: &dyn Fn() -> String, by: impl Fn(Solver) -> Outcome) -> Outcome {
+    fn expected<T: PartialEq + Debug>(&mut self, call: &dyn Fn() -> String, by: impl Fn(Solver) -> T) -> T {
         let expected = by(self.solver);
         if self.solver == Solver::Exhaustive {
             let solved = by(Solver::Flow);
@@ -238,6 +248,56 @@ impl<'a> Trial<'a> {
         Some(text)
     }
 
+    /// Mending of these bytes; the mended ticket and the list of dropped rules, if the model accepts.
+    pub fn mend(&mut self, ticket: &[u8], lengths: Outputs) -> Option<(Vec<u8>, Vec<u8>)> {
+        let call = || format!("mending of {} with {lengths:?}", hex(ticket));
+        let mut out: Lent<u8> = self.lend(lengths.out);
+        let mut dropped: Lent<u8> = self.lend(lengths.dropped);
+        let (mut wanted, mut listed) = (out.slice().to_vec(), dropped.slice().to_vec());
+        let mending = || self.expected(&call, |solver| calls::mend(ticket, solver));
+        let (number, length, list_length) = calls::hand_out(mending, &mut wanted, &mut listed);
+        let answer = self.library.mend(ticket, out.slice(), dropped.slice());
+        self.count(number);
+        self.expect(answer == number, "mending's number", || {
+            format!("{} answered {answer}, expected {number}", call())
+        });
+        let (mended, list) = (out.first(length).to_vec(), dropped.first(list_length).to_vec());
+        let written = || format!("{} wrote {} and listed {}", call(), hex(&mended), hex(&list));
+        self.expect(out.slice() == wanted, "output of the mended ticket", written);
+        self.expect(dropped.slice() == listed, "output of the list", written);
+        let within = out.untouched_after(lengths.out) && dropped.untouched_after(lengths.dropped);
+        self.expect(within, "margins of mending", call);
+        (number == 0).then_some((mended, list))
+    }
+
+    /// Claims of a mended ticket that need no model, by the library's other answers: kept and dropped rules are the ticket's;
+    /// the mended ticket has a plan, and the ticket one exactly where no rule is dropped; mended again it stays as it is; and
+    /// a dropped rule, put back at its place or after all others, leaves no plan.
+    pub fn is_mended(&mut self, ticket: &[u8], mended: &[u8], list: &[u8]) {
+        let call = || format!("mending of {} wrote {} and listed {}", hex(ticket), hex(mended), hex(list));
+        let Some((whole, kept, numbers)) = parted(ticket, mended, list) else {
+            return self.expect(false, "kept and dropped rules", call);
+        };
+        let library = self.library;
+        let plan = |of: &Ticket| library.plan_door(Prefer::Earliest, &writing::ticket(of), &mut [0; calls::RECORD]);
+        self.expect(plan(&kept) == 0, "the mended ticket's plan", call);
+        let (mut out, mut dropped) = ([0; calls::TICKET], [255; calls::DROPPED]);
+        let again = library.mend(mended, &mut out, &mut dropped);
+        let stays = again == 0 && out[..mended.len()] == *mended && dropped[..2] == [0, 0];
+        self.expect(stays, "mended again", call);
+        if numbers.is_empty() {
+            return;
+        }
+        self.expect(plan(&whole) == 9, "the plan of a ticket with rules to drop", call);
+        let number = self.random.pick(&numbers);
+        let place = number - 1 - numbers.iter().filter(|&&other| other < number).count();
+        for place in [place, kept.rules.len()] {
+            let mut back = kept.clone();
+            back.rules.insert(place, whole.rules[number - 1]);
+            self.expect(plan(&back) == 9, "a dropped rule put back", || format!("{}, number {number}", call()));
+        }
+    }
+
     /// Number, length, bytes and rest of what is written; `what` says it. What the library wrote, if it accepts.
     fn rewriting(
         &mut self,
@@ -304,6 +364,19 @@ fn is_after(ticket: &Ticket, stops: u32, out: &[i32], finished: &[i32]) -> bool 
     }
     out.iter().zip(&least).all(|(&entry, &least)| entry as i64 == least)
         && out.iter().zip(finished).all(|(entry, least)| entry >= least)
+}
+
+/// A ticket, what is left of it and the numbers of the rules that are dropped, out of the bytes. None unless these rise and
+/// the rules of the other numbers are what is left.
+fn parted(ticket: &[u8], mended: &[u8], list: &[u8]) -> Option<(Ticket, Ticket, Vec<usize>)> {
+    let (whole, kept) = (reading::ticket(ticket).ok()?, reading::ticket(mended).ok()?);
+    let numbers = reading::dropped(list)?;
+    let rising = numbers.windows(2).all(|pair| pair[0] < pair[1]);
+    let inside = numbers.iter().all(|number| (1..=whole.rules.len()).contains(number));
+    let others = (1..=whole.rules.len()).filter(|number| !numbers.contains(number));
+    let rules = others.map(|number| whole.rules[number - 1]).collect();
+    let holds = rising && inside && kept == Ticket { rules, ..whole.clone() };
+    holds.then_some((whole, kept, numbers))
 }
 
 /// The rule of this number, counted from the number; none if there is none.

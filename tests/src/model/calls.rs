@@ -1,14 +1,16 @@
 //! The calls: what is answered and written, from everything that is lent.
 
-use super::{distances, exhaustive, flags, reading, reason, rings, stops, writing};
+use super::{distances, exhaustive, flags, mending, reading, reason, rings, stops, writing};
 use super::{Commitment, Prefer, Record, Rule, Solver, Ticket, Window, DEVICES, MOST_ACCEPTED};
 
-/// Least sizes: bytes of a ticket's and a record's output, numbers of scratch, numbers of a table, bytes of a reason's output.
+/// Least sizes: bytes of a ticket's and a record's output, numbers of scratch, numbers of a table, bytes of a reason's output,
+/// bytes of the output for a list of dropped rules.
 pub const TICKET: usize = 1_584;
 pub const RECORD: usize = 1_958;
 pub const SCRATCH: usize = 8_192;
 pub const TABLE: usize = 1_681;
 pub const REASON: usize = 2_200;
+pub const DROPPED: usize = 514;
 
 /// Number, length and total; the last two are 0 on a refusal.
 #[derive(Clone, Copy, Debug, PartialEq, Eq)]
@@ -250,4 +252,29 @@ pub fn reason(asked: &Asked, out: &mut [u8], solver: Solver) -> (u32, u32) {
         let ring = rings::first(&ticket, solver).expect("without a schedule there is a ring");
         Ok(reason::text(&ticket, &rings::numbered(&ticket), &ring, &labels, &roster))
     })
+}
+
+/// A refusal number, or what is written to each output: the mended ticket, and the list of dropped rules.
+pub type Mending = Result<(Vec<u8>, Vec<u8>), u32>;
+
+/// Mending of a ticket's bytes, once both outputs are long enough: 1 to 8.
+pub fn mend(bytes: &[u8], solver: Solver) -> Mending {
+    let ticket = reading::ticket(bytes)?;
+    let (kept, dropped) = mending::walked(&ticket, |kept| has_schedule(kept, solver));
+    Ok((writing::ticket(&kept), writing::dropped(&dropped)))
+}
+
+/// Writes what mending gives to two lent outputs: 10, or its number, and the length of what is written to each.
+pub fn hand_out(mending: impl FnOnce() -> Mending, out: &mut [u8], dropped: &mut [u8]) -> (u32, usize, usize) {
+    if out.len() < TICKET || dropped.len() < DROPPED {
+        return (10, 0, 0);
+    }
+    match mending() {
+        Err(number) => (number, 0, 0),
+        Ok((ticket, list)) => {
+            out[..ticket.len()].copy_from_slice(&ticket);
+            dropped[..list.len()].copy_from_slice(&list);
+            (0, ticket.len(), list.len())
+        }
+    }
 }

@@ -6,6 +6,7 @@ pub mod calls;
 pub mod distances;
 pub mod exhaustive;
 pub mod flow;
+pub mod mending;
 pub mod reading;
 pub mod reason;
 pub mod rings;

@@ -1,4 +1,4 @@
-//! Bytes to tickets and records: field by field in byte order, presence before value.
+//! Bytes to tickets, records and lists of dropped rules: field by field in byte order, presence before value.
 
 use super::{flags, Record, Rule, Ticket, Window, DEVICES, MOST_ACCEPTED};
 
@@ -95,6 +95,14 @@ pub fn ticket(bytes: &[u8]) -> Result<Ticket, u32> {
     let ticket = ticket_fields(&mut fields)?;
     require(fields.bytes.is_empty(), 8)?;
     Ok(ticket)
+}
+
+/// The numbers of a whole list of dropped rules; none if its count is not theirs.
+pub fn dropped(bytes: &[u8]) -> Option<Vec<usize>> {
+    let mut fields = Fields { bytes };
+    let count = fields.number(2).ok()?;
+    let numbers = (0..count).map(|_| fields.number(2).map(|number| number as usize)).collect::<Result<_, u32>>();
+    numbers.ok().filter(|_| fields.bytes.is_empty())
 }
 
 /// A whole record, or the first of 1 to 8 and 14 that applies.

@@ -1,4 +1,4 @@
-//! Tickets and records to bytes.
+//! Tickets, records and lists to bytes.
 
 use super::{Record, Ticket};
 
@@ -28,6 +28,11 @@ pub fn record(record: &Record) -> Vec<u8> {
         bytes.extend((count as u16).to_le_bytes());
     }
     bytes
+}
+
+/// A list of dropped rules: their count, then their numbers.
+pub fn dropped(numbers: &[u16]) -> Vec<u8> {
+    [numbers.len() as u16].iter().chain(numbers).flat_map(|number| number.to_le_bytes()).collect()
 }
 
 /// A list of names: their count, then each after its length.
