@@ -22,8 +22,8 @@ use Rattle.mending.specs.Selection.{mended, dropped}
 use Rattle.mending.specs.Laws.{counts, mended-valid}
 use Rattle.mending.specs.Mending.{writeNumbers, Outcome, refusing, accepting, afterReading, mending, mending-read}
 use Rattle.mending.specs.Mended.{length-numbers, numbers-fit}
+use Rattle.select.specs.declared.Mended.{Mended}
 use Rattle.mend.specs.Returned.{returned}
-use Rattle.mend.specs.declared.Mended.{Mended}
 use Rattle.mend.specs.declared.Answer.{Answer}
 
 -- a is what the outcome returns, and `out` and `list` its outputs

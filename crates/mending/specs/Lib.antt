@@ -14,7 +14,7 @@
 --           bytes in the outputs
 -- Examples shows the definitions at work: P1 and the impossible tickets of 01's P6 and P7, on bytes (`examples-hold`). Steps has the laws of one step.
 --
--- That the code is this function is said by its contracts, in crate `mend`.
+-- That the code is this selection and this function is said by its contracts, in crates `select` and `mend`.
 pub mod Selection
 pub mod Mending
 pub mod Steps

@@ -6,9 +6,9 @@ use mathlib.Core.Path.{_≡_}
 use lib.ListN.{length}
 use Rattle.demands.specs.Rules.{given-bound}
 use Rattle.potentials.specs.Arrays.{valid-given}
-use Rattle.mend.specs.Selecting.{Selecting, selecting-start, selecting-few, selecting-asks, selecting-kept, selecting-dropped, selecting-mended, selecting-listed}
-use Rattle.mend.proofs.select.Statement.{statement}
-use Rattle.mend.proofs.select.Tie as tie
+use Rattle.select.specs.Selecting.{Selecting, selecting-start, selecting-few, selecting-asks, selecting-kept, selecting-dropped, selecting-mended, selecting-listed}
+use Rattle.select.proofs.select.Statement.{statement}
+use Rattle.select.proofs.select.Tie as tie
 
 abbrev Inv-loop : tie.InvT-loop
 Inv-loop net₀ tails₀ heads₀ times₀ t from₀ to₀ bound₀ numbers₀ kept₀ dropped₀ j₀ net tails heads times from to bound numbers kept dropped j =

@@ -5,9 +5,9 @@ use Prim.Native.Nat.{ℕ}
 use lib.ListN.{length-replicate}
 use Rattle.potentials.specs.Arrays.{valid-given}
 use Rattle.potentials.specs.Pairs.{replicate-most}
-use Rattle.mend.specs.Selecting.{boxes-tried}
-use Rattle.mend.proofs.mend_ticket.Statement.{statement}
-use Rattle.mend.proofs.mend_ticket.Tie as tie
+use Rattle.select.specs.Selecting.{boxes-tried}
+use Rattle.select.proofs.mend_ticket.Statement.{statement}
+use Rattle.select.proofs.mend_ticket.Tie as tie
 
 boxes-requires : tie.Need-boxes-requires
 boxes-requires c κs =
