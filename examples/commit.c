@@ -46,7 +46,7 @@ static void print(const uint8_t *record, uint32_t n, uint32_t m)
     const uint8_t *counts = record + BEYUNLAK_RECORD_LENGTH(n, m) - 2 * BEYUNLAK_DEVICES;
     uint32_t total = 0;
     for (uint32_t i = 0; i < n; i++)
-        total += get(windows + 9 * i + 5, 4) - get(windows + 9 * i + 1, 4);
+        total += BEYUNLAK_WEIGHT(record[6 + i]) * (get(windows + 9 * i + 5, 4) - get(windows + 9 * i + 1, 4));
     printf("record %u", (unsigned)total);
     for (int device = 0; device < BEYUNLAK_DEVICES; device++)
         printf(" %u", (unsigned)get(counts + 2 * device, 2));

@@ -70,7 +70,7 @@ static void print(const char *title, const uint8_t *record)
         uint32_t open = get(window + 1, 4), close = get(window + 5, 4);
         printf("  event %u, owner %u: %u..%u%s\n", (unsigned)(i + 1), (unsigned)record[6 + i],
                (unsigned)open, (unsigned)close, window[0] ? ", committed" : "");
-        total += close - open;
+        total += BEYUNLAK_WEIGHT(record[6 + i]) * (close - open);
     }
     printf("  total %u, accepted commitments by owner:", (unsigned)total);
     for (int owner = 0; owner < BEYUNLAK_DEVICES; owner++)

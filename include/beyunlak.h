@@ -51,8 +51,15 @@
  *   no commitment of an event of that device is accepted.
  *   A record of the former layout, with one number for all devices in place of these last twelve bytes, is
  *   refused: 14, or 1 where that number is 5.
- *   A window of width 0 (open = close) is one tick. The total width of a plan, the sum of close - open, is not
- *   stored: it follows from the windows.
+ *   A window of width 0 (open = close) is one tick.
+ *
+ * THE TOTAL WIDTH of a plan, by which windows are chosen: the sum over the events of close - open times the
+ *   weight of the event's owner, BEYUNLAK_WEIGHT. A tick of width counts 3 for the camera, 1 for wheel, lamps
+ *   and stage, and 0 for the database. So the total is three times the widths of the camera's windows plus those
+ *   of wheel, lamps and stage, at most 120,000,000. It is not stored: it follows from the record.
+ *   Windows of the database do not count, and are as early (in the latest plan as late) as the others' allow;
+ *   like all windows they keep every rule, and contain their former ones after a commitment. With events of the
+ *   database alone every total is 0, and each window of the plan is a single tick, the event's earliest time.
  *
  * A TABLE, the output of beyunlak_table: (n + 1) * (n + 1) signed numbers, row by row from point 0 on, so that
  *   D(i, j) stands at place i * (n + 1) + j. D(i, j) is the largest time of j minus time of i, over all times
@@ -191,7 +198,7 @@ extern "C" {
 #define BEYUNLAK_DROPPED_LENGTH(d) (2 + 2 * (size_t)(d))
 #define BEYUNLAK_DROPPED_MAX 514
 
-/* The devices that own events, and how many they are. */
+/* The devices that own events, how many they are, and what a tick of their windows counts in the total width. */
 #define BEYUNLAK_DEVICES 5
 enum beyunlak_owner {
     BEYUNLAK_CAMERA = 0,
@@ -200,6 +207,7 @@ enum beyunlak_owner {
     BEYUNLAK_STAGE = 3,
     BEYUNLAK_DATABASE = 4
 };
+#define BEYUNLAK_WEIGHT(owner) ((owner) == BEYUNLAK_CAMERA ? 3u : (owner) == BEYUNLAK_DATABASE ? 0u : 1u)
 
 /* A rule: time of `to` minus time of `from` is at most `bound`. It has 8 bytes: from at offset 0, to at 1,
  * bound at 4; the two bytes between are not looked at. */
@@ -240,14 +248,14 @@ enum beyunlak_answer {
 
 /*
  * The plan of a ticket: of all sets of windows from which every choice keeps all rules, the one of the largest
- * total width; where several are equally wide, the one in which every open and every close is earliest.
+ * total width; where several have the same, the one in which every open and every close is earliest.
  * Answers 0 to 10.
  */
 uint32_t beyunlak_plan(const uint8_t *ticket, size_t ticket_len, uint8_t *out, size_t out_len);
 
 /*
- * The latest plan of a ticket: of the equally wide sets that beyunlak_plan chooses from, the one in which every
- * open and every close is latest. It is as wide as the plan. A commitment on its record prefers the earliest,
+ * The latest plan of a ticket: of the sets of the largest total width that beyunlak_plan chooses from, the one in
+ * which every open and every close is latest. A commitment on its record prefers the earliest,
  * as on any record. Answers 0 to 10, the same number as beyunlak_plan.
  */
 uint32_t beyunlak_plan_latest(const uint8_t *ticket, size_t ticket_len, uint8_t *out, size_t out_len);

@@ -1,5 +1,5 @@
-// Successive shortest paths: a unit of flow from each open to a close, along paths found by Dijkstra's method
-// on slacks; potentials are ticks. Starts with the test for a schedule, by Bellman's and Ford's.
+// Successive shortest paths: from each open to closes as much flow as its event weighs, along paths found by Dijkstra's
+// method on slacks; potentials are ticks. Starts with the test for a schedule, by Bellman's and Ford's.
 #include <algorithm>
 
 #include "peers.h"
@@ -34,8 +34,7 @@ struct Flow {
     int nodes;
     std::vector<Arc> arcs;
     Star leaving, arriving;
-    std::vector<int> flow;
-    std::vector<int64_t> tick, distance;
+    std::vector<int64_t> flow, tick, distance;
     std::vector<int> by;     // arc k as 2 k, walked backwards as 2 k + 1
     std::vector<int> ready;  // nodes at the present distance
     std::vector<char> done;
@@ -114,15 +113,17 @@ struct Flow {
         return -1;
     }
 
-    void send(int source, int sink) {
+    // Along the path found to `sink`, at most `most` units; how many.
+    int64_t send(int source, int sink, int64_t most) {
         const int64_t end = distance[sink];
         for (int node = 0; node < nodes; node++) tick[node] += std::min(distance[node], end);
-        for (int node = sink; node != source;) {
-            const int k = by[node] / 2;
-            const bool against = by[node] % 2;
-            flow[k] += against ? -1 : 1;
-            node = against ? arcs[k].head : arcs[k].tail;
+        const auto before = [&](int node) { return by[node] % 2 ? arcs[by[node] / 2].head : arcs[by[node] / 2].tail; };
+        int64_t sent = most;
+        for (int node = sink; node != source; node = before(node)) {
+            if (by[node] % 2) sent = std::min(sent, flow[by[node] / 2]);
         }
+        for (int node = sink; node != source; node = before(node)) flow[by[node] / 2] += by[node] % 2 ? -sent : sent;
+        return sent;
     }
 };
 
@@ -132,12 +133,15 @@ Windows solve_ssp(const Network &network) {
     Flow flow(network);
     if (!flow.start()) return {};
     const int n = network.events;
-    std::vector<char> wanted(network.nodes(), 0);
-    std::fill(wanted.begin() + n + 1, wanted.end(), 1);
+    std::vector<int64_t> wanted(network.nodes(), 0);
+    std::copy(network.weight.begin() + 1, network.weight.end(), wanted.begin() + n + 1);
     for (int source = 1; source <= n; source++) {
-        const int sink = flow.search<false>(source, [&](int node) { return wanted[node] != 0; });
-        flow.send(source, sink);
-        wanted[sink] = 0;
+        for (int64_t units = network.weight[source]; units > 0;) {
+            const int sink = flow.search<false>(source, [&](int node) { return wanted[node] != 0; });
+            const int64_t sent = flow.send(source, sink, std::min(units, wanted[sink]));
+            units -= sent;
+            wanted[sink] -= sent;
+        }
     }
     flow.search<true>(0, [](int) { return false; });
     for (int node = 0; node < flow.nodes; node++) flow.tick[node] -= flow.distance[node];

@@ -5,6 +5,8 @@
 namespace {
 
 constexpr int64_t horizon = 1000000;
+// Camera, filter wheel, lamps, stage, database.
+constexpr int64_t weights[5] = {3, 1, 1, 1, 0};
 
 // xorshift64*: one seed gives one sequence.
 struct Random {
@@ -201,8 +203,10 @@ Network make_network(const Ticket &ticket, const std::vector<Range> &ranges) {
     const int n = network.events = ticket.events();
     network.low.assign(network.nodes(), 0);
     network.high.assign(network.nodes(), 0);
+    network.weight.assign(n + 1, 0);
     for (int k = 1; k <= n; k++) {
         const Range &range = ranges[k - 1];
+        network.weight[k] = weights[ticket.owners[k - 1]];
         network.low[k] = range.open_low;
         network.high[k] = range.open_high;
         network.low[n + k] = range.close_low;

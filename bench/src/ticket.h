@@ -33,7 +33,8 @@ struct Range {
 };
 
 // Node 0 is session start, node i the open of event i, node n + i its close. An arc demands: tick of head
-// minus tick of tail is at most cost; a box, that a node's tick lies in low to high.
+// minus tick of tail is at most cost; a box, that a node's tick lies in low to high. A tick of event i's width counts
+// weight[i].
 struct Arc {
     int tail, head;
     int64_t cost;
@@ -42,7 +43,7 @@ struct Arc {
 struct Network {
     int events;
     std::vector<Arc> arcs;
-    std::vector<int64_t> low, high;
+    std::vector<int64_t> low, high, weight;
     int nodes() const { return 2 * events + 1; }
     Windows windows(const std::vector<int64_t> &tick) const;
 };

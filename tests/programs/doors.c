@@ -208,7 +208,7 @@ static void examples(void)
     uint32_t answer;
     trains();
     answer = plan(BEYUNLAK_RECORD_MAX);
-    trains_record(0, 5, 10, 8, 9, 0);
+    trains_record(0, 5, 11, 9, 9, 0);
     gives("P1", answer);
     check("record length", in_len == BEYUNLAK_RECORD_LENGTH(2, 6));
     answer = commit(1, 10, 10, BEYUNLAK_RECORD_MAX);
@@ -242,11 +242,11 @@ static void latest_examples(void)
     uint32_t answer;
     trains();
     answer = plan(BEYUNLAK_RECORD_MAX);
-    trains_record(0, 15, 15, 13, 19, 0);
+    trains_record(0, 9, 15, 13, 13, 0);
     gives("P1", answer);
     trains();
     answer = plan(sizeof out);
-    trains_record(0, 15, 15, 13, 19, 0);
+    trains_record(0, 9, 15, 13, 13, 0);
     gives("P1, longer output", answer);
     start(5, 3);
     owners(3, BEYUNLAK_STAGE);
@@ -273,7 +273,7 @@ static void latest_examples(void)
     gives("P6", answer);
 }
 
-/* P3 as a run: a commitment on the record that a latest plan has just written. */
+/* A commitment on the record that a latest plan has just written, and two on P3's record. */
 static void latest_then_commitment(void)
 {
     uint32_t answer;
@@ -287,10 +287,69 @@ static void latest_then_commitment(void)
     trains_record(0, 15, 15, 13, 19, 0);
     answer = commit(2, 13, 14, BEYUNLAK_RECORD_MAX);
     trains_flags(0, 10, 15, 1, 13, 14, 0, 1);
-    gives("P1, then event 2 commits 13..14", answer);
+    gives("P3, where event 2 commits 13..14", answer);
     answer = commit(2, 13, 13, BEYUNLAK_RECORD_MAX);
     trains_flags(0, 9, 15, 1, 13, 13, 0, 2);
-    gives("P1, then event 2 commits 13..14 and 13..13", answer);
+    gives("P3, where event 2 commits 13..14 and 13..13", answer);
+}
+
+/* ---- weights */
+
+/* P4 with other owners, and the ends of its three windows in the plan and in the latest plan. */
+static const struct {
+    const char *name;
+    uint32_t owner[3], earliest[6], latest[6];
+} weighed[] = {
+    {"the camera alone", {0, 0, 0}, {0, 5, 0, 0, 0, 0}, {5, 5, 5, 5, 0, 5}},
+    {"the database alone", {4, 4, 4}, {0, 0, 0, 0, 0, 0}, {5, 5, 5, 5, 5, 5}},
+    {"the camera between two of the stage", {3, 0, 3}, {5, 5, 0, 5, 0, 0}, {5, 5, 0, 5, 0, 0}},
+    {"the stage between two of the database", {4, 3, 4}, {5, 5, 0, 5, 0, 0}, {5, 5, 0, 5, 0, 0}},
+    {"the database between wheel and lamps", {1, 4, 2}, {0, 5, 0, 0, 0, 0}, {5, 5, 5, 5, 0, 5}},
+};
+
+static void weighed_plans(int late)
+{
+    for (size_t k = 0; k < sizeof weighed / sizeof *weighed; k++) {
+        const uint32_t *ends = late ? weighed[k].latest : weighed[k].earliest;
+        uint32_t answer;
+        start(5, 3);
+        for (int i = 0; i < 3; i++)
+            put(weighed[k].owner[i], 1);
+        put(2, 2);
+        rule(1, 2, 0);
+        rule(2, 3, 0);
+        answer = plan(BEYUNLAK_RECORD_MAX);
+        put(3, 2);
+        for (int i = 0; i < 3; i++)
+            window(0, ends[2 * i], ends[2 * i + 1]);
+        counts(0, 0, 0, 0, 0);
+        gives(weighed[k].name, answer);
+    }
+}
+
+/* P10 of camera and database, and a record of it. */
+static void camera_and_database(uint32_t flag, uint32_t a, uint32_t b, uint32_t c, uint32_t d)
+{
+    start(5, 2);
+    put(BEYUNLAK_CAMERA, 1);
+    put(BEYUNLAK_DATABASE, 1);
+    put(0, 2);
+    put(2, 2);
+    window(flag, a, b);
+    window(0, c, d);
+    counts(flag, 0, 0, 0, 0);
+}
+
+static void weights(void)
+{
+    static const uint32_t weight[BEYUNLAK_DEVICES] = {3, 1, 1, 1, 0};
+    uint32_t answer;
+    for (uint32_t owner = 0; owner < BEYUNLAK_DEVICES; owner++)
+        check("BEYUNLAK_WEIGHT", BEYUNLAK_WEIGHT(owner) == weight[owner]);
+    camera_and_database(0, 0, 5, 1, 3);
+    answer = commit(1, 2, 2, BEYUNLAK_RECORD_MAX);
+    camera_and_database(1, 2, 2, 0, 3);
+    gives("the database contains its former window", answer);
 }
 
 /* ---- narrowing again */
@@ -612,7 +671,7 @@ static void count_whole(void)
 static void longest_ticket(void)
 {
     start(BEYUNLAK_HORIZON_MAX, BEYUNLAK_EVENTS_MAX);
-    owners(BEYUNLAK_EVENTS_MAX, BEYUNLAK_DATABASE);
+    owners(BEYUNLAK_EVENTS_MAX, BEYUNLAK_CAMERA);
     put(BEYUNLAK_RULES_MAX, 2);
     for (uint32_t i = 0; i < BEYUNLAK_RULES_MAX; i++)
         rule(i % 40, i % 40 + 1, BEYUNLAK_BOUND_MAX);
@@ -626,7 +685,7 @@ static void longest_record(uint32_t open, uint32_t close, uint32_t count)
     for (int i = 1; i < BEYUNLAK_EVENTS_MAX; i++)
         window(1, 0, BEYUNLAK_HORIZON_MAX);
     window(1, open, close);
-    counts(0, 0, 0, 0, count);
+    counts(count, 0, 0, 0, 0);
 }
 
 static void longest_again(void)
@@ -1402,6 +1461,9 @@ int main(int count, char **words)
     records();
     examples();
     longest();
+    of = "weights: ";
+    weights();
+    weighed_plans(0);
     of = "again: ";
     narrowing();
     by_turns();
@@ -1445,5 +1507,6 @@ int main(int count, char **words)
     latest_examples();
     latest_then_commitment();
     longest();
+    weighed_plans(1);
     return 0;
 }

@@ -58,7 +58,7 @@ while IFS='|' read -r name wanted latest; do
     wanted=${wanted# }
     plans "examples/tickets/${name% }" "${wanted% }" "${latest# }"
 done <<'CASES'
-p1 | plan 2 6/1 0 5 10/2 2 8 9 | plan 2 6/1 0 15 15/2 2 13 19
+p1 | plan 2 18/1 0 5 11/2 2 9 9 | plan 2 18/1 0 9 15/2 2 13 13
 p4 | plan 3 5/1 3 0 5/2 3 0 0/3 3 0 0 | plan 3 5/1 3 5 5/2 3 5 5/3 3 0 5
 p6 | plan 2 0/1 3 1 1/2 3 0 0 | plan 2 0/1 3 10 10/2 3 9 9
 p6-impossible | refused 9
@@ -67,7 +67,7 @@ p7-impossible | refused 9
 p8 | plan 0 0
 p9 | refused 1
 p10 | plan 2 10/1 3 0 5/2 3 0 5
-session | plan 9 1420/1 3 30 200/2 1 15 585/3 2 110 540/4 0 590 590/5 4 630 740/6 1 645 645/7 0 650 650/8 4 710 850/9 2 710 710 | plan 9 1420/1 3 30 200/2 1 15 725/3 2 300 680/4 0 730 730/5 4 770 880/6 1 785 785/7 0 790 790/8 4 850 850/9 2 850 900
+session | plan 9 1500/1 3 30 200/2 1 15 535/3 2 250 490/4 0 540 590/5 4 630 630/6 1 645 645/7 0 650 790/8 4 850 850/9 2 850 850 | plan 9 1500/1 3 30 200/2 1 15 535/3 2 300 490/4 0 540 650/5 4 690 690/6 1 705 705/7 0 710 790/8 4 850 850/9 2 850 900
 CASES
 
 head -c 1048576 /dev/zero >"$work/ticket"
@@ -76,12 +76,12 @@ plans 'a megabyte of zeros' 'refused 8'
 # the longest ticket, 1,584 bytes, with the longest text; and one byte more
 {
     bytes '40420f00 2800'
-    bytes 04 40
+    bytes 00 40
     bytes 0001
     bytes 000140420f00 256
 } >"$work/ticket"
-longest='plan 40 40000000'
-i=1; while [ $i -le 40 ]; do longest="$longest/$i 4 0 1000000"; i=$((i + 1)); done
+longest='plan 40 120000000'
+i=1; while [ $i -le 40 ]; do longest="$longest/$i 0 0 1000000"; i=$((i + 1)); done
 plans 'the longest ticket' "$longest"
 printf x >>"$work/ticket"
 plans 'the longest ticket and one byte more' 'refused 8'
@@ -92,7 +92,7 @@ printf 'refused 8\n' >"$work/wanted"
 same 'a gigabyte of zeros' "$work/wanted" "$work/got"
 
 # bytes that come one by one
-printf 'plan 2 6\n1 0 5 10\n2 2 8 9\n' >"$work/wanted"
+printf 'plan 2 18\n1 0 5 11\n2 2 9 9\n' >"$work/wanted"
 dd if=examples/tickets/p1.ticket bs=1 2>/dev/null | "$planner" >"$work/got"
 same 'P1, a byte at a time' "$work/wanted" "$work/got"
 
@@ -154,10 +154,10 @@ refuses "horizon 5/event a stage$(i=0; while [ $i -le 256 ]; do printf '/rule st
 bytes '05000000 0100 05 0000' | tools/ticket show >"$work/got" 2>"$work/errors"
 if [ $? -eq 1 ] && grep -q '^refused 4: .*(byte 6)' "$work/errors" && [ ! -s "$work/got" ]; then pass; else fail 'show refuses'; fi
 "$planner" <examples/tickets/p1.ticket | tools/ticket explain >"$work/got"
-printf 'accepted: 2 events, total 6\nevent 1, camera: any tick from 5 to 10\nevent 2, lamps: any tick from 8 to 9\n' >"$work/wanted"
+printf 'accepted: 2 events, total 18\nevent 1, camera: any tick from 5 to 11\nevent 2, lamps: any tick from 9 to 9\n' >"$work/wanted"
 same 'explain a plan' "$work/wanted" "$work/got"
 "$planner" latest <examples/tickets/p1.ticket | tools/ticket explain >"$work/got"
-printf 'accepted: 2 events, total 6\nevent 1, camera: any tick from 15 to 15\nevent 2, lamps: any tick from 13 to 19\n' >"$work/wanted"
+printf 'accepted: 2 events, total 18\nevent 1, camera: any tick from 9 to 15\nevent 2, lamps: any tick from 13 to 13\n' >"$work/wanted"
 same 'explain a latest plan' "$work/wanted" "$work/got"
 "$planner" <examples/tickets/p9.ticket | tools/ticket explain >"$work/got" 2>"$work/errors"
 if [ $? -eq 1 ] && grep -q '^refused 1: the bytes end inside a field' "$work/errors"; then pass; else fail 'explain a refusal'; fi
@@ -229,12 +229,12 @@ shown() {
 }
 # counted COUNT..: how the five counts are shown
 counted() { printf '/# accepted commitments of each device/#   camera       %s/#   filter-wheel %s/#   lamps        %s/#   stage        %s/#   database     %s' "$@"; }
-p1_free='0200 00 05000000 0a000000 00 08000000 09000000'
+p1_free='0200 00 05000000 0b000000 00 09000000 09000000'
 p1_one='0200 01 0a000000 0a000000 00 08000000 0e000000'
 p1_both='0200 01 0a000000 0a000000 01 0a000000 0c000000'
-free_shown='# window e1 5..10 free/# window e2 8..9 free/# committed events 0, sum of the widths 6'
-one_shown='# window e1 10..10 committed/# window e2 8..14 free/# committed events 1, sum of the widths 6'
-both_shown='# window e1 10..10 committed/# window e2 10..12 committed/# committed events 2, sum of the widths 2'
+free_shown='# window e1 5..11 free/# window e2 9..9 free/# committed events 0, total 18'
+one_shown='# window e1 10..10 committed/# window e2 8..14 free/# committed events 1, total 6'
+both_shown='# window e1 10..10 committed/# window e2 10..12 committed/# committed events 2, total 2'
 shown 'a plan' "$p1_free 0500 0000 0000 0000 0000 0000" "$free_shown$(counted 0 0 0 0 0)"
 shown 'no flags, counts from elsewhere' "$p1_free 0500 0100 0200 0300 0400 0500" "$free_shown$(counted 1 2 3 4 5)"
 shown 'one flag, its count 1' "$p1_one 0500 0100 0000 0000 0000 0000" "$one_shown$(counted 1 0 0 0 0)"
@@ -321,39 +321,39 @@ tools/ticket by "$work/none.txt" 'shutter 6..10' >"$work/got" 2>"$work/errors"
 if [ $? -eq 1 ] && [ ! -s "$work/got" ] && [ -s "$work/errors" ]; then pass; else fail 'by without a text'; fi
 
 # what examples/commit.c writes for the commitments of docs/TEXT-FORM.md, and with names
-p1_plan='record 6 0 0 0 0 0/1 0 5 10/2 0 8 9'
-p1_twice="$p1_plan/commit 1 6 10/record 6 1 0 0 0 0/1 1 6 10/2 0 8 10/commit 1 10 10/record 6 2 0 0 0 0/1 1 10 10/2 0 8 14"
+p1_plan='record 18 0 0 0 0 0/1 0 5 11/2 0 9 9'
+p1_twice="$p1_plan/commit 1 6 10/record 14 1 0 0 0 0/1 1 6 10/2 0 8 10/commit 1 10 10/record 6 2 0 0 0 0/1 1 10 10/2 0 8 14"
 p1_run="$p1_twice/commit 1 9 9/refused 13/commit 2 10 12/record 2 2 0 1 0 0/1 1 10 10/2 1 10 12"
-p1_plan_told='plan: total 6, none accepted/  shutter  5..10/  flash    8..9'
-p1_twice_told="$p1_plan_told/shutter commits 6..10: total 6, accepted camera 1/  shutter  6..10 committed/  flash    8..10/shutter commits 10..10: total 6, accepted camera 2/  shutter 10..10 committed/  flash    8..14"
+p1_plan_told='plan: total 18, none accepted/  shutter  5..11/  flash    9..9'
+p1_twice_told="$p1_plan_told/shutter commits 6..10: total 14, accepted camera 1/  shutter  6..10 committed/  flash    8..10/shutter commits 10..10: total 6, accepted camera 2/  shutter 10..10 committed/  flash    8..14"
 p1_outside="refused 13: the open is above the close, or they are not inside the event's window"
 p1_run_told="$p1_twice_told/shutter commits 9..9: $p1_outside/flash commits 10..12: total 2, accepted camera 2, lamps 1/  shutter 10..10 committed/  flash   10..12 committed"
 tells commits 'P1' $p1 "$p1_run" "$p1_run_told" 0
-tells commits 'a plan alone' $p1 "$p1_plan" 'plan: total 6, none accepted/  shutter 5..10/  flash   8..9' 0
+tells commits 'a plan alone' $p1 "$p1_plan" 'plan: total 18, none accepted/  shutter 5..11/  flash   9..9' 0
 tells commits 'no events' examples/tickets/p8.txt 'record 0 0 0 0 0 0/commit 1 0 0/refused 11' 'plan: total 0, none accepted/event 1 commits 0..0: refused 11: there is no such event to commit' 0
 tells commits 'the start, and numbers that no event has' $p1 "$p1_plan/commit 0 0 0/refused 11/commit 3 0 0/refused 11" \
-    'plan: total 6, none accepted/  shutter 5..10/  flash   8..9/event 0 commits 0..0: refused 11: there is no such event to commit/event 3 commits 0..0: refused 11: there is no such event to commit' 0
-tells commits 'each device' $p1 'record 6 1 2 3 4 5/1 0 5 10/2 0 8 9' \
-    'plan: total 6, accepted camera 1, filter-wheel 2, lamps 3, stage 4, database 5/  shutter 5..10/  flash   8..9' 0
-tells commits '18' $p1 'record 5 65535 0 0 0 0/1 1 5 10/2 0 8 8/commit 1 5 10/refused 18' \
-    "plan: total 5, accepted camera 65535/  shutter 5..10 committed/  flash   8..8/shutter commits 5..10: refused 18: the count of accepted commitments of the event's owner is 65,535 and cannot rise" 0
-tells commits 'closes of two lengths' $p1 'record 6 0 0 0 0 0/1 1 5 10/2 1 8 9' 'plan: total 6, none accepted/  shutter 5..10 committed/  flash   8..9  committed' 0
+    'plan: total 18, none accepted/  shutter 5..11/  flash   9..9/event 0 commits 0..0: refused 11: there is no such event to commit/event 3 commits 0..0: refused 11: there is no such event to commit' 0
+tells commits 'each device' $p1 'record 18 1 2 3 4 5/1 0 5 11/2 0 9 9' \
+    'plan: total 18, accepted camera 1, filter-wheel 2, lamps 3, stage 4, database 5/  shutter 5..11/  flash   9..9' 0
+tells commits '18' $p1 'record 18 65535 0 0 0 0/1 1 5 11/2 0 9 9/commit 1 5 11/refused 18' \
+    "plan: total 18, accepted camera 65535/  shutter 5..11 committed/  flash   9..9/shutter commits 5..11: refused 18: the count of accepted commitments of the event's owner is 65,535 and cannot rise" 0
+tells commits 'closes of two lengths' $p1 'record 18 0 0 0 0 0/1 1 5 11/2 1 9 9' 'plan: total 18, none accepted/  shutter 5..11 committed/  flash   9..9  committed' 0
 tells commits 'refused' $p1 'refused 9' 'refused 9: no times keep all rules' 1
 
 # no_run NAME LINES: the lines are no run on the plan of P1
 no_run() { untold commits "$1" $p1 "$2" "this is no run of commitments on the plan of $p1"; }
 no_run 'nothing' ''
-no_run 'a plan of the program' 'plan 2 6/1 0 5 10/2 2 8 9'
-no_run 'a window missing' 'record 6 0 0 0 0 0/1 0 5 10'
+no_run 'a plan of the program' 'plan 2 18/1 0 5 11/2 2 9 9'
+no_run 'a window missing' 'record 18 0 0 0 0 0/1 0 5 11'
 no_run 'a window too many' "$p1_plan/3 0 5 5"
-no_run 'windows in another order' 'record 6 0 0 0 0 0/2 0 8 9/1 0 5 10'
-no_run 'a flag of 2' 'record 6 0 0 0 0 0/1 2 5 10/2 0 8 9'
-no_run 'a word in it' 'record 6 0 0 0 0 0/1 0 five 10/2 0 8 9'
-no_run 'a count missing' 'record 6 0 0 0 0/1 0 5 10/2 0 8 9'
-no_run 'a count too many' 'record 6 0 0 0 0 0 0/1 0 5 10/2 0 8 9'
-no_run 'a count that is a word' 'record 6 0 0 one 0 0/1 0 5 10/2 0 8 9'
-no_run 'one number for all devices' 'record 0 6/1 0 5 10/2 0 8 9'
-no_run 'no plan' 'commit 1 6 10/record 6 1 0 0 0 0/1 1 6 10/2 0 8 10'
+no_run 'windows in another order' 'record 18 0 0 0 0 0/2 0 9 9/1 0 5 11'
+no_run 'a flag of 2' 'record 18 0 0 0 0 0/1 2 5 11/2 0 9 9'
+no_run 'a word in it' 'record 18 0 0 0 0 0/1 0 five 11/2 0 9 9'
+no_run 'a count missing' 'record 18 0 0 0 0/1 0 5 11/2 0 9 9'
+no_run 'a count too many' 'record 18 0 0 0 0 0 0/1 0 5 11/2 0 9 9'
+no_run 'a count that is a word' 'record 18 0 0 one 0 0/1 0 5 11/2 0 9 9'
+no_run 'one number for all devices' 'record 0 18/1 0 5 11/2 0 9 9'
+no_run 'no plan' 'commit 1 6 10/record 14 1 0 0 0 0/1 1 6 10/2 0 8 10'
 no_run 'two plans' "$p1_plan/$p1_plan"
 no_run 'no answer' "$p1_plan/commit 1 6 10"
 no_run 'no answer to the first' "$p1_plan/commit 1 6 10/commit 1 6 10/refused 13"
@@ -645,7 +645,7 @@ p1 | | $p1_plan
 p1 | 1 6 10 1 10 10 1 9 9 2 10 12 | $p1_run
 p1 | 01 006 10 1 10 10 | $p1_twice
 p1 | 1 10 10 1 10 10 | $p1_plan/commit 1 10 10/record 6 1 0 0 0 0/1 1 10 10/2 0 8 14/commit 1 10 10/record 6 2 0 0 0 0/1 1 10 10/2 0 8 14
-p1 | 2 8 9 1 5 10 2 8 9 | $p1_plan/commit 2 8 9/record 6 0 0 1 0 0/1 0 5 10/2 1 8 9/commit 1 5 10/record 6 1 0 1 0 0/1 1 5 10/2 1 8 9/commit 2 8 9/record 6 1 0 2 0 0/1 1 5 10/2 1 8 9
+p1 | 2 9 9 1 5 11 2 9 9 | $p1_plan/commit 2 9 9/record 18 0 0 1 0 0/1 0 5 11/2 1 9 9/commit 1 5 11/record 18 1 0 1 0 0/1 1 5 11/2 1 9 9/commit 2 9 9/record 18 1 0 2 0 0/1 1 5 11/2 1 9 9
 p1 | 0 5 5 3 5 5 4294967295 0 0 | $p1_plan/commit 0 5 5/refused 11/commit 3 5 5/refused 11/commit 4294967295 0 0/refused 11
 p1 | 1 7 6 1 4 10 2 8 4294967295 | $p1_plan/commit 1 7 6/refused 13/commit 1 4 10/refused 13/commit 2 8 4294967295/refused 13
 p4 | 1 2 5 2 1 2 1 4 5 2 2 2 | record 5 0 0 0 0 0/1 0 0 5/2 0 0 0/3 0 0 0/commit 1 2 5/record 5 0 0 0 1 0/1 1 2 5/2 0 0 2/3 0 0 0/commit 2 1 2/record 5 0 0 0 2 0/1 1 2 5/2 1 1 2/3 0 0 1/commit 1 4 5/record 3 0 0 0 3 0/1 1 4 5/2 1 1 2/3 0 0 1/commit 2 2 2/record 3 0 0 0 4 0/1 1 4 5/2 1 2 2/3 0 0 2
@@ -789,11 +789,11 @@ written() {
 written P1 examples/tickets/p1.ticket '' 78 "$free_shown$(counted 0 0 0 0 0)"
 written P1 examples/tickets/p1.ticket '1 6 10 1 10 10 2 10 12' 78 "$both_shown$(counted 2 0 1 0 0)"
 bytes '09000000 0500 00 01 02 03 04 0000' >"$work/each"
-written 'a ticket of every device' "$work/each" '5 3 4 2 0 9 5 4 4 3 1 1 5 4 4' 72 \
-    "# window e1 0..9 free/# window e2 0..9 committed/# window e3 1..1 committed/# window e4 0..9 free/# window e5 4..4 committed/# committed events 3, sum of the widths 27$(counted 0 1 1 0 3)"
+written 'a ticket of every device' "$work/each" '5 0 0 2 0 9 5 0 0 3 1 1 5 0 0' 72 \
+    "# window e1 0..9 free/# window e2 0..9 committed/# window e3 1..1 committed/# window e4 0..9 free/# window e5 0..0 committed/# committed events 3, total 45$(counted 0 1 1 0 3)"
 # where events of the session's plan commit to their whole windows, nothing can grow
-written 'the session' examples/tickets/session.ticket '4 590 590 1 30 200 4 590 590 8 710 850 9 710 710 6 645 645 8 710 850 4 590 590' 208 \
-    "# window e1 30..200 committed/# window e2 15..585 free/# window e3 110..540 free/# window e4 590..590 committed/# window e5 630..740 free/# window e6 645..645 committed/# window e7 650..650 free/# window e8 710..850 committed/# window e9 710..710 committed/# committed events 5, sum of the widths 1420$(counted 3 1 1 1 2)"
+written 'the session' examples/tickets/session.ticket '4 540 590 1 30 200 4 540 590 8 850 850 9 850 850 6 645 645 8 850 850 4 540 590' 208 \
+    "# window e1 30..200 committed/# window e2 15..535 free/# window e3 250..490 free/# window e4 540..590 committed/# window e5 630..630 free/# window e6 645..645 committed/# window e7 650..790 free/# window e8 850..850 committed/# window e9 850..850 committed/# committed events 5, total 1500$(counted 3 1 1 1 2)"
 
 # sized NAME SCRIPT WORD..: what an example host prints for P1 after this change to the length of its outputs
 sized() {
@@ -814,8 +814,8 @@ same 'examples/host.c, one output of 1,957 bytes' "$work/wanted" "$work/got"
 sized commit 's/BEYUNLAK_RECORD_MAX/1958/' 1 6 10 1 10 10 1 9 9 2 10 12
 printf '%s\n' "$p1_run" | tr '/' '\n' >"$work/wanted"
 same 'examples/commit.c, outputs of 1,958 bytes' "$work/wanted" "$work/got"
-sized commit 's/^ *BEYUNLAK_RECORD_MAX/1957/' 2 8 9 1 10 10
-printf '%s\n' "$p1_plan/commit 2 8 9/refused 10/commit 1 10 10/refused 10" | tr '/' '\n' >"$work/wanted"
+sized commit 's/^ *BEYUNLAK_RECORD_MAX/1957/' 2 9 9 1 10 10
+printf '%s\n' "$p1_plan/commit 2 9 9/refused 10/commit 1 10 10/refused 10" | tr '/' '\n' >"$work/wanted"
 same 'examples/commit.c, commitments with outputs of 1,957 bytes' "$work/wanted" "$work/got"
 
 for room in 'mended.BEYUNLAK_TICKET_MAX|mended[1584|dropped' 'mended.BEYUNLAK_TICKET_MAX|mended[1583|refused 10' \
@@ -934,7 +934,7 @@ makes mend 'P7' "$p7_mended" 0 TICKET=$p7
 makes mend 'P1' "$p1_mended" 0 TICKET=$p1
 makes mend 'docs/TEXT-FORM.md' "$turned_mended" 0 TICKET="$work/turned.txt"
 makes mend 'README' "$my_mended" 0 TICKET="$work/my.txt"
-first_plan='plan 2 150/1 2 0 0/2 0 50 200'
+first_plan='plan 2 450/1 2 0 0/2 0 50 200'
 tools/ticket encode "$work/got" "$work/made"
 same 'target/mended' "$work/made" target/mended
 "$planner" <target/mended >"$work/got"
@@ -954,13 +954,13 @@ done
 
 # the ticket of README.md, before its fifth line comes
 head -n 4 "$work/my.txt" >"$work/first.txt"
-first_told='plan: total 150, none accepted/  lamps-on   0..0/  exposure  50..200/exposure commits 100..150: total 100, accepted camera 1/  lamps-on   0..50/  exposure 100..150 committed/exposure commits 120..120: total 70, accepted camera 2/  lamps-on   0..70/  exposure 120..120 committed/lamps-on commits 20..20: total 0, accepted camera 2, lamps 1/  lamps-on  20..20  committed/  exposure 120..120 committed'
+first_told='plan: total 450, none accepted/  lamps-on   0..0/  exposure  50..200/exposure commits 100..150: total 200, accepted camera 1/  lamps-on   0..50/  exposure 100..150 committed/exposure commits 120..120: total 70, accepted camera 2/  lamps-on   0..70/  exposure 120..120 committed/lamps-on commits 20..20: total 0, accepted camera 2, lamps 1/  lamps-on  20..20  committed/  exposure 120..120 committed'
 first_by='exposure 10s..15s, exposure 12s..12s, lamps-on 2s..2s'
 p1_by='shutter 6..10, shutter 1s..1s, shutter 9..9, flash 10..12'
 makes commit 'no ticket named' "$p1_twice_told" 0
 makes commit 'docs/TEXT-FORM.md' "$p1_run_told" 0 BY="$p1_by"
 makes commit 'README' "$first_told" 0 TICKET="$work/first.txt" BY="$first_by"
-makes commit 'nothing' 'plan: total 6, none accepted/  shutter 5..10/  flash   8..9' 0 BY=
+makes commit 'nothing' 'plan: total 18, none accepted/  shutter 5..11/  flash   9..9' 0 BY=
 makes commit 'no events' 'plan: total 0, none accepted' 0 TICKET=examples/tickets/p8.txt BY=
 makes commit 'the same window' 'plan: total 0, none accepted/  last 10..10/last commits 10..10: total 0, accepted stage 1/  last 10..10 committed/last commits 10..10: total 0, accepted stage 2/  last 10..10 committed' 0 \
     TICKET=examples/tickets/p7.txt BY='last 10..10, last 10..10'

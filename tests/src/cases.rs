@@ -1,6 +1,6 @@
 //! Kinds of cases. One seed gives one case: some tickets or records and the calls on them.
 
-use crate::generate::{self, Structure, STRUCTURES};
+use crate::generate::{self, Structure, DEVICE_SETS, STRUCTURES};
 use crate::impossible::{self, ALL_SHAPES, SHAPES};
 use crate::library::Library;
 use crate::model::calls::{self, Asked, Loose, LooseRecord};
@@ -55,6 +55,10 @@ pub enum Kind {
     MendingTiny,
     /// Damaged and cut tickets mended, and outputs of other lengths.
     MendingBytes,
+    /// Both plans of tickets of one device, of two and of all, and commitments on them.
+    Weights,
+    /// The same on tiny tickets, expected answers by exhaustive search.
+    WeightsTiny,
 }
 
 /// What the calls of a kind are about: reasons and mending have kinds of their own.
@@ -65,7 +69,7 @@ pub enum Subject {
     Others,
 }
 
-pub const KINDS: [Kind; 22] = [
+pub const KINDS: [Kind; 24] = [
     Kind::Tiny,
     Kind::Structures,
     Kind::Runs,
@@ -88,6 +92,8 @@ pub const KINDS: [Kind; 22] = [
     Kind::Mending,
     Kind::MendingTiny,
     Kind::MendingBytes,
+    Kind::Weights,
+    Kind::WeightsTiny,
 ];
 
 impl Kind {
@@ -115,6 +121,8 @@ impl Kind {
             Kind::Mending => "mending",
             Kind::MendingTiny => "mending-tiny",
             Kind::MendingBytes => "mending-bytes",
+            Kind::Weights => "weights",
+            Kind::WeightsTiny => "weights-tiny",
         }
     }
 
@@ -125,8 +133,10 @@ impl Kind {
     /// The kind that a long run tries at this seed.
     pub fn at(seed: u64) -> Kind {
         match Random::new(seed ^ 0x6b69_6e64).below(1_000) {
-            0..=99 => Kind::Tiny,
-            100..=239 => Kind::Structures,
+            0..=79 => Kind::Tiny,
+            80..=99 => Kind::WeightsTiny,
+            100..=209 => Kind::Structures,
+            210..=239 => Kind::Weights,
             240..=279 => Kind::Runs,
             280..=354 => Kind::Foreign,
             355..=379 => Kind::Counts,
@@ -174,6 +184,7 @@ impl Kind {
             Kind::Mending => &[0, 10],
             Kind::MendingTiny => &[0],
             Kind::MendingBytes => &[0, 1, 2, 3, 4, 5, 6, 7, 8, 10],
+            Kind::Weights | Kind::WeightsTiny => &[0, 9, 10, 11, 13],
             _ => &[],
         }
     }
@@ -205,6 +216,8 @@ pub fn run(kind: Kind, seed: u64, library: &dyn Library) -> Report {
         Kind::Mending => mending(&mut trial, seed),
         Kind::MendingTiny => mending_tiny(&mut trial),
         Kind::MendingBytes => mending_bytes(&mut trial, seed),
+        Kind::Weights => weights(&mut trial, seed),
+        Kind::WeightsTiny => weights_tiny(&mut trial, seed),
     }
     trial.report
 }
@@ -671,6 +684,35 @@ fn mending_bytes(trial: &mut Trial, seed: u64) {
             trial.mend(bytes, lengths);
         }
     }
+}
+
+fn weights(trial: &mut Trial, seed: u64) {
+    let random = &mut trial.random;
+    let (n, horizon) = generate::size(random);
+    let structure = random.pick(&STRUCTURES);
+    let ticket = generate::ticket(structure, n, horizon, random);
+    weigh(trial, ticket, seed);
+}
+
+fn weights_tiny(trial: &mut Trial, seed: u64) {
+    trial.solver = Solver::Exhaustive;
+    let ticket = generate::tiny(&mut trial.random);
+    weigh(trial, ticket, seed);
+}
+
+/// Both plans of a ticket of some devices alone, what the library's other calls say of them, and commitments on them; then
+/// commitments on a record of it from elsewhere.
+fn weigh(trial: &mut Trial, ticket: Ticket, seed: u64) {
+    let devices = DEVICE_SETS[seed as usize % DEVICE_SETS.len()];
+    let ticket = generate::owned_by(devices, ticket, &mut trial.random);
+    for prefer in BOTH {
+        if let Some(record) = trial.plan(prefer, &writing::ticket(&ticket), ENOUGH) {
+            trial.is_weighed(prefer, &ticket, &record);
+            commit_on(trial, record, 4, 15, AGAIN);
+        }
+    }
+    let record = generate::foreign_record(ticket, &mut trial.random);
+    commit_on(trial, writing::record(&record), 3, 10, AGAIN);
 }
 
 /// What a ticket is made of, not all of it in range.

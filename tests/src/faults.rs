@@ -11,6 +11,7 @@ use crate::model::{
 use crate::narrowing_faults::{self, NarrowingFault};
 use crate::reason_faults::{self, ReasonFault};
 use crate::stop_faults::{self, StopFault};
+use crate::weight_faults::{self, WeightFault};
 
 #[derive(Clone, Copy, Debug, PartialEq, Eq)]
 pub enum Fault {
@@ -88,9 +89,11 @@ pub enum Fault {
     Counts(CountsFault),
     /// A fault of mending.
     Mending(MendingFault),
+    /// A fault of what a tick of width counts.
+    Weights(WeightFault),
 }
 
-/// All faults but those of reasons, of stops, of narrowing again, of counts and of mending.
+/// All faults but those of reasons, of stops, of narrowing again, of counts, of mending and of weights.
 pub const FAULTS: [Fault; 32] = [
     Fault::RefusesAll,
     Fault::OnePlan,
@@ -228,6 +231,9 @@ impl Faulty {
     }
 
     fn planned(&self, prefer: Prefer, bytes: &[u8]) -> Outcome {
+        if let Fault::Weights(fault) = self.fault {
+            return weight_faults::planned(fault, prefer, bytes);
+        }
         let bytes = if self.fault == Fault::BytesAfter { ticket_prefix(bytes) } else { bytes };
         let special = if prefer == Prefer::Latest { self.latest(bytes) } else { None };
         let outcome = special.unwrap_or_else(|| library::planned(prefer, bytes));
@@ -254,6 +260,7 @@ impl Faulty {
         match self.fault {
             Fault::Narrowing(fault) => return narrowing_faults::committed(fault, bytes, commitment),
             Fault::Counts(fault) => return counts_faults::committed(fault, bytes, commitment),
+            Fault::Weights(fault) => return weight_faults::committed(fault, bytes, commitment),
             _ => {}
         }
         let outcome = library::committed(bytes, commitment);
@@ -275,8 +282,8 @@ impl Faulty {
             }
             (Fault::TotalOfFree, Ok((record, _)), _) => {
                 let windows = record.windows.iter().zip(&record.committed);
-                let free = windows.filter(|(_, &committed)| !committed).map(|(w, _)| (w.close - w.open) as i64);
-                let total = free.sum();
+                let free = windows.map(|(&w, &committed)| if committed { Window { close: w.open, ..w } } else { w });
+                let total = record.ticket.total(&free.collect::<Vec<_>>());
                 Ok((record, total))
             }
             (Fault::MiddleTicks, Err(15), Ok(former)) if middles_fit(&former) => {
@@ -481,11 +488,11 @@ impl Library for Faulty {
 
     fn printed(&self, prefer: Prefer, ticket: &[u8]) -> String {
         let prefer = if self.fault == Fault::PrintsEarliest { Prefer::Earliest } else { prefer };
-        let text = text::printed(&self.planned(prefer, ticket));
-        if self.fault == Fault::PrintsFromZero {
-            from_zero(text)
-        } else {
-            text
+        let outcome = self.planned(prefer, ticket);
+        match self.fault {
+            Fault::PrintsFromZero => from_zero(text::printed(&outcome)),
+            Fault::Weights(fault) => text::printed(&weight_faults::shown(fault, outcome)),
+            _ => text::printed(&outcome),
         }
     }
 }

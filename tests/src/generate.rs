@@ -88,6 +88,15 @@ pub fn ticket(structure: Structure, n: usize, horizon: u32, random: &mut Random)
     Ticket { horizon, owners, rules: order.into_iter().map(|k| rules.list[k]).collect() }
 }
 
+/// Devices whose events a ticket may have, and no other's: each alone, the camera or the wheel beside the database, the
+/// camera beside the stage, all.
+pub const DEVICE_SETS: [&[u8]; 9] = [&[0], &[1], &[2], &[3], &[4], &[0, 4], &[1, 4], &[0, 3], &[0, 1, 2, 3, 4]];
+
+/// The ticket with its events shared out among these devices.
+pub fn owned_by(devices: &[u8], ticket: Ticket, random: &mut Random) -> Ticket {
+    Ticket { owners: ticket.owners.iter().map(|_| random.pick(devices)).collect(), ..ticket }
+}
+
 fn owner(structure: Structure, k: usize, random: &mut Random) -> u8 {
     match structure {
         Structure::Session => [1, 3, 2, 0, 4][k % 5],

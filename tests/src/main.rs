@@ -15,26 +15,31 @@ mod model;
 mod narrowing_faults;
 mod random;
 mod reason_faults;
+mod script;
 mod solvers;
 mod stop_faults;
 mod stored;
 mod trial;
+mod weight_faults;
 
 use cases::{Kind, Subject, KINDS};
 use counts_faults::COUNTS_FAULTS;
 use faults::{Fault, Faulty, FAULTS};
 use library::Library;
 use mending_faults::MENDING_FAULTS;
+use model::Prefer;
 use narrowing_faults::NARROWING_FAULTS;
 use reason_faults::REASON_FAULTS;
+use std::io::Read;
 use std::sync::atomic::{AtomicU64, Ordering};
 use std::sync::Mutex;
 use std::time::Instant;
 use stop_faults::STOP_FAULTS;
 use trial::{Report, NUMBERS};
+use weight_faults::WEIGHT_FAULTS;
 
 /// How many seeds of each kind the quick part tries.
-const QUICK: [(Kind, u64); 22] = [
+const QUICK: [(Kind, u64); 24] = [
     (Kind::Tiny, 3_000),
     (Kind::Structures, 3_000),
     (Kind::Runs, 100),
@@ -57,6 +62,8 @@ const QUICK: [(Kind, u64); 22] = [
     (Kind::Mending, 5_000),
     (Kind::MendingTiny, 4_000),
     (Kind::MendingBytes, 2_000),
+    (Kind::Weights, 1_800),
+    (Kind::WeightsTiny, 2_700),
 ];
 
 const USAGE: &str = "\
@@ -65,9 +72,11 @@ tests/run long SEED COUNT [THREADS [KIND ..]]
                                      seeds from SEED on until COUNT calls are made, of all kinds or of those named
 tests/run one KIND SEED              one case: tiny structures runs foreign damaged prefixes lengths values records text
                                      latest latest-tiny reason reason-tiny reason-lists stops narrowing
-                                     narrowing-tiny counts mending mending-tiny mending-bytes
+                                     narrowing-tiny counts mending mending-tiny mending-bytes weights weights-tiny
 tests/run solvers SEED COUNT         the solvers of the model against each other
-tests/run self-check                 libraries with a planted fault: each has to be caught";
+tests/run self-check                 libraries with a planted fault: each has to be caught
+tests/run script                     what the model answers to the stored script crates/cases/stdin
+tests/run print [latest] <TICKET     what the program has to print, by the model";
 
 #[cfg(linked)]
 fn library() -> &'static dyn Library {
@@ -186,6 +195,9 @@ fn quick(library: &dyn Library) -> i32 {
     let (agreed, differences) = solvers::compare(1, 1_500);
     println!("solvers of the model: {agreed} tickets and records");
     all.add("solvers", Report { differences, ..Report::default() });
+    let (lines, differences) = script::compare();
+    println!("stored script by the model: {lines} lines");
+    all.add("stored script", Report { differences, ..Report::default() });
     for (kind, count) in QUICK {
         let begun = Instant::now();
         let mut tally = try_seeds(library, 1..count + 1, 2, |_| kind);
@@ -235,8 +247,8 @@ fn self_check() -> i32 {
     let mut all = Tally::default();
     let of_calls = REASON_FAULTS.map(Fault::Reason).into_iter().chain(STOP_FAULTS.map(Fault::Stops));
     let of_records = NARROWING_FAULTS.map(Fault::Narrowing).into_iter().chain(COUNTS_FAULTS.map(Fault::Counts));
-    let of_mending = MENDING_FAULTS.map(Fault::Mending);
-    for fault in FAULTS.into_iter().chain(of_calls).chain(of_records).chain(of_mending) {
+    let others = MENDING_FAULTS.map(Fault::Mending).into_iter().chain(WEIGHT_FAULTS.map(Fault::Weights));
+    for fault in FAULTS.into_iter().chain(of_calls).chain(of_records).chain(others) {
         let library = Faulty { fault };
         let mut caught: Vec<String> = Vec::new();
         for case in &stored::CASES {
@@ -283,6 +295,13 @@ fn one(library: &dyn Library, kind: &str, seed: u64) -> i32 {
     all.last_line()
 }
 
+fn print(prefer: Prefer) -> i32 {
+    let mut ticket = Vec::new();
+    std::io::stdin().read_to_end(&mut ticket).expect("standard input");
+    print!("{}", model::text::printed(&library::planned(prefer, &ticket)));
+    0
+}
+
 fn compare_solvers(seed: u64, count: u64) -> i32 {
     let mut all = Tally::default();
     let (agreed, differences) = solvers::compare(seed, count);
@@ -309,6 +328,12 @@ fn main() {
             }
         }
         ["one", kind, seed] => number(seed).map_or(2, |seed| one(library(), kind, seed)),
+        ["script"] => {
+            print!("{}", script::answers());
+            0
+        }
+        ["print"] => print(Prefer::Earliest),
+        ["print", "latest"] => print(Prefer::Latest),
         ["solvers", seed, count] => match (number(seed), number(count)) {
             (Some(seed), Some(count)) => compare_solvers(seed, count),
             _ => 2,

@@ -6,6 +6,7 @@ mod mending;
 mod narrowing;
 mod reasons;
 mod stops;
+mod weights;
 
 use crate::library::Library;
 use crate::model::calls::{self, Loose, LooseRecord};
@@ -15,7 +16,7 @@ use crate::trial::{Lengths, Report, Trial, ENOUGH};
 /// A name and what it tries.
 type Case = (&'static str, fn(&mut Stored));
 
-pub const CASES: [Case; 73] = [
+pub const CASES: [Case; 80] = [
     ("01, P1 and P2", example_1_2),
     ("01, P3", example_3),
     ("01, P4 and P5", example_4_5),
@@ -77,6 +78,13 @@ pub const CASES: [Case; 73] = [
     ("02, change 6: 256 rules", mending::many),
     ("02, change 6: a ring through all points", mending::all_points),
     ("02, change 6: refusals in their order", mending::refusals),
+    ("02, change 7: P1", weights::example_1),
+    ("02, change 7: each device alone", weights::alone),
+    ("02, change 7: a tick of the camera against three", weights::against_three),
+    ("02, change 7: the database beside others", weights::database_beside),
+    ("02, change 7: commitments at weight 0", weights::database_commits),
+    ("02, change 7: totals", weights::totals),
+    ("02, change 7: the largest total", weights::largest),
     ("000, examples 1 and 2: trains", trains),
     ("000, example 3: earliest to latest", trains_earliest_to_latest),
     ("000, examples 4 to 6: a train commits", trains_commitment),
@@ -188,6 +196,12 @@ impl Stored<'_> {
         self.says(read.map(|r| r.windows.iter().map(|w| w.close - w.open).sum()) == Some(width), what);
     }
 
+    /// The total of a record, by the model; the library was compared with it.
+    fn total(&mut self, record: &Option<Vec<u8>>, total: i64, what: &str) {
+        let read = record.as_ref().and_then(|bytes| reading::record(bytes).ok());
+        self.says(read.map(|r| r.ticket.total(&r.windows)) == Some(total), what);
+    }
+
     fn refused(&mut self, record: &Option<Vec<u8>>, what: &str) {
         self.says(record.is_none(), what);
     }
@@ -217,16 +231,26 @@ impl Stored<'_> {
 
 /// Trains of 000, example 1, in minutes after noon: the first arrives between 5 and 15, the second between 8
 /// and 20, at most 4 after and at most 2 before the first.
+fn trains_of(owners: [u8; 2]) -> Ticket {
+    ticket(20, &owners, &[(0, 1, 15), (1, 0, -5), (0, 2, 20), (2, 0, -8), (1, 2, 4), (2, 1, 2)])
+}
+
+/// P1 of 01.
 fn two_trains() -> Ticket {
-    ticket(20, &[0, 2], &[(0, 1, 15), (1, 0, -5), (0, 2, 20), (2, 0, -8), (1, 2, 4), (2, 1, 2)])
+    trains_of([0, 2])
+}
+
+/// As in 000, a minute of one train counts what a minute of the other does.
+fn equal_trains() -> Ticket {
+    trains_of([1, 2])
 }
 
 fn example_1_2(case: &mut Stored) {
     let table = case.table(&two_trains());
     case.says(table == [[0, 15, 19], [-5, 0, 4], [-8, 2, 0]], "P1's table");
     let plan = case.plan(&two_trains());
-    case.windows(&plan, &[(5, 10), (8, 9)], "P1's plan");
-    case.width(&plan, 6, "P1's total");
+    case.windows(&plan, &[(5, 11), (9, 9)], "P1's plan");
+    case.total(&plan, 18, "P1's total");
     let after = plan.and_then(|bytes| case.commit(&bytes, 1, 10, 10));
     case.windows(&after, &[(10, 10), (8, 14)], "P2");
 }
@@ -293,11 +317,11 @@ fn both_sides(case: &mut Stored) {
 
 fn latest_1(case: &mut Stored) {
     let plan = case.plan_latest(&two_trains());
-    case.windows(&plan, &[(15, 15), (13, 19)], "P1's latest plan");
-    case.width(&plan, 6, "total of P1's latest plan");
+    case.windows(&plan, &[(9, 15), (13, 13)], "P1's latest plan");
+    case.total(&plan, 18, "total of P1's latest plan");
 }
 
-/// On P1's latest plan P3 of 01 goes on.
+/// On P1's latest plan event 2 keeps its tick.
 fn latest_then_commitment(case: &mut Stored) {
     let plan = case.plan_latest(&two_trains());
     let after = plan.and_then(|bytes| case.commit(&bytes, 2, 13, 13));
@@ -308,7 +332,7 @@ fn latest_then_commitment(case: &mut Stored) {
 /// event 1, which comes 2 to 10 ticks after event 2. When the first of them commits, nothing widens; when the second
 /// does, the other two get 8 ticks: as wide as 7..12 and 2..5 are 8..12 and 2..6, and 9..12 and 2..7.
 fn latest_then_earliest(case: &mut Stored) {
-    let ticket = ticket(12, &[2, 2, 0, 3], &[(1, 3, 0), (1, 4, 0), (3, 2, 0), (4, 2, 0), (1, 2, -2), (2, 1, 10)]);
+    let ticket = ticket(12, &[2, 2, 1, 3], &[(1, 3, 0), (1, 4, 0), (3, 2, 0), (4, 2, 0), (1, 2, -2), (2, 1, 10)]);
     let plan = case.plan(&ticket);
     case.windows(&plan, &[(10, 10), (0, 0), (0, 10), (0, 10)], "the plan");
     let latest = case.plan_latest(&ticket);
@@ -341,15 +365,19 @@ fn latest_session(case: &mut Stored) {
     let bytes = include_bytes!("../../examples/tickets/session.ticket");
     let Ok(session) = reading::ticket(bytes) else { return case.says(false, "the session's ticket is read") };
     let plan = case.plan(&session);
-    case.width(&plan, 1_420, "total of the session's plan");
+    case.windows(&plan, &SESSION, "the session's plan");
+    case.total(&plan, 1_500, "total of the session's plan");
     let plan = case.plan_latest(&session);
-    case.windows(&plan, &SESSION, "the session's latest plan");
-    case.width(&plan, 1_420, "total of the session's latest plan");
+    case.windows(&plan, &SESSION_LATEST, "the session's latest plan");
+    case.total(&plan, 1_500, "total of the session's latest plan");
 }
 
-/// The second image is stored, and the lamps go out, when the next session needs the rig; all else goes back from there.
+/// The images are stored at ticks, which count nothing, so that the exposures, which count three times, have more room; the
+/// second image is stored when the next session needs the rig.
 const SESSION: [(u32, u32); 9] =
-    [(30, 200), (15, 725), (300, 680), (730, 730), (770, 880), (785, 785), (790, 790), (850, 850), (850, 900)];
+    [(30, 200), (15, 535), (250, 490), (540, 590), (630, 630), (645, 645), (650, 790), (850, 850), (850, 850)];
+const SESSION_LATEST: [(u32, u32); 9] =
+    [(30, 200), (15, 535), (300, 490), (540, 650), (690, 690), (705, 705), (710, 790), (850, 850), (850, 900)];
 
 /// Says: a bound may pass a ticket's range in the mirror. None of these tickets is refused for that.
 fn latest_past_the_range(case: &mut Stored) {
@@ -478,9 +506,12 @@ fn trains_earliest_to_latest(case: &mut Stored) {
 /// Says: greatest flexibility 6, as with 15..15 and 13..19; when the second train commits to 13 the first may
 /// arrive at 9 to 15, where without an update it would be bound to 15.
 fn trains_commitment(case: &mut Stored) {
-    let plan = case.plan(&two_trains());
+    let plan = case.plan(&equal_trains());
+    case.windows(&plan, &[(5, 10), (8, 9)], "the earliest windows of example 4");
     case.width(&plan, 6, "flexibility of example 4");
-    let after = case.commit(&record(two_trains(), &[(15, 15), (13, 19)]), 2, 13, 13);
+    let latest = case.plan_latest(&equal_trains());
+    case.windows(&latest, &[(15, 15), (13, 19)], "windows of example 4");
+    let after = case.commit(&record(equal_trains(), &[(15, 15), (13, 19)]), 2, 13, 13);
     case.windows(&after, &[(9, 15), (13, 13)], "update of example 5");
 }
 
@@ -558,7 +589,7 @@ fn calendar() -> Ticket {
     between(11, 12, 60, 180);
     between(5, 9, 0, 0);
     rules.extend([(3, 2, 0), (7, 6, 0), (11, 10, 0), (7, 2, 0)]);
-    ticket(240, &[0, 0, 0, 0, 1, 1, 1, 1, 2, 2, 2, 2], &rules)
+    ticket(240, &[1, 1, 1, 1, 2, 2, 2, 2, 3, 3, 3, 3], &rules)
 }
 
 /// Figure 1(b), says: earliest and latest times; Chris's project starts 8:00 to 8:30 and ends 9:30 to 10:00,

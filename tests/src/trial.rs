@@ -5,7 +5,7 @@ use crate::library::Library;
 use crate::model::calls::{self, Answer, Asked, Loose, LooseRecord, Outcome};
 use crate::model::rings::{self, Step};
 use crate::model::stops::NO_PATH;
-use crate::model::{reading, reason, text, writing, Commitment, Prefer, Record, Rule, Solver, Ticket, DEVICES};
+use crate::model::{reading, reason, text, writing, Commitment, Prefer, Record, Rule, Solver, Ticket, Window, DEVICES};
 use crate::random::Random;
 use std::fmt::Debug;
 
@@ -296,6 +296,38 @@ impl<'a> Trial<'a> {
             back.rules.insert(place, whole.rules[number - 1]);
             self.expect(plan(&back) == 9, "a dropped rule put back", || format!("{}, number {number}", call()));
         }
+    }
+
+    /// Claims of a plan that need no model, by the library's other answers: wheel, lamps and stage may change places; events
+    /// of the camera alone have the windows that the wheel's would have; those of the database alone have a tick each, the
+    /// earliest or the latest time.
+    pub fn is_weighed(&mut self, prefer: Prefer, ticket: &Ticket, record: &[u8]) {
+        let call = || format!("{prefer:?} plan of {} wrote {}", hex(&writing::ticket(ticket)), hex(record));
+        let library = self.library;
+        let windows = |bytes: &[u8]| reading::record(bytes).map(|read| read.windows);
+        let alone = |device: u8| ticket.owners.iter().all(|&owner| owner == device);
+        let other = |&owner: &u8| match owner {
+            0 if alone(0) => 1,
+            1..=3 => owner % 3 + 1,
+            _ => owner,
+        };
+        let others = Ticket { owners: ticket.owners.iter().map(other).collect(), ..ticket.clone() };
+        let mut out = [0; calls::RECORD];
+        let number = library.plan_door(prefer, &writing::ticket(&others), &mut out);
+        let same = number == 0 && windows(&out[..record.len()]) == windows(record);
+        self.expect(same, "devices of equal weight", call);
+        if !alone(4) {
+            return;
+        }
+        let size = ticket.events() + 1;
+        let mut table = [0; calls::TABLE];
+        library.table(ticket.horizon, size as u32 - 1, &ticket.rules, &mut table);
+        let time = |event: usize| match prefer {
+            Prefer::Earliest => -table[event * size] as u32,
+            Prefer::Latest => table[event] as u32,
+        };
+        let ticks = (1..size).map(|event| Window { open: time(event), close: time(event) }).collect();
+        self.expect(windows(record) == Ok(ticks), "ticks of the database", call);
     }
 
     /// Number, length, bytes and rest of what is written; `what` says it. What the library wrote, if it accepts.

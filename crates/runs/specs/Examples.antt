@@ -1,6 +1,6 @@
 -- The examples P1 to P10 of 01, and P1's latest plan (02, change 1), as one table: a call, and what it answers and leaves, whatever output and scratch of
 -- sufficient length it is lent. A second table has P1's event 1 narrowed again (02, change 4), a third
--- the counts of its two devices (02, change 5).
+-- the counts of its two devices (02, change 5), a fourth P4 and P10 with other owners (02, change 7).
 -- What is decided of the tickets and records is `temporal`'s Examples; here the bytes are read and written.
 use mathlib.Core.Path.{_≡_, refl, ap, _∙_}
 use mathlib.Core.Bool.{true}
@@ -13,8 +13,9 @@ use Rattle.temporal.specs.Lists.{All, tab}
 use Rattle.temporal.specs.Ticket.{Rule, Ticket, weights, weight, total}
 use Rattle.temporal.specs.Plan.{State, accepted, refused, plan, planLatest, commit, asking}
 use Rattle.temporal.specs.Table.{tableOf}
-use Rattle.temporal.specs.Examples.{minus as negative, ticket1, plan1, record3, ticket4, plan4, ticket6, ticket7, ticket8, ticket10}
+use Rattle.temporal.specs.Examples.{minus as negative, ticket1, plan1, record3 as state3, ticket4, plan4, ticket6, ticket7, ticket8, ticket10}
 use Rattle.temporal.specs.Examples.{narrow1, tick1, narrowed, narrowed-again, narrowed-same, narrowed-stays, narrowed-full, counted-own}
+use Rattle.temporal.specs.Examples.{owned4, owned10, record10 as state10, camera-between, database-alone, camera-database, database-contains}
 use Rattle.temporal.specs.Examples.{p1, p1-latest, p1-table, p2, p3, p4, p5, p6, p6-refused, p7, p7-refused, p8, p10}
 use Rattle.ticket.specs.Parser.{got, number, little, many, wholly}
 use Rattle.ticket.specs.Format.{readTicket, readOwner, readRule, readState, readWindows, readWindow, readSame, readCounts, eachCount, readCount}
@@ -100,11 +101,15 @@ bytes1 =
     ++ (rule 0 1 15 ++ (minus 1 0 5 ++ (rule 0 2 20 ++ (minus 2 0 8 ++ (rule 1 2 4 ++ rule 2 1 2))))))))
 
 abbrev pub record1 : List ℕ
-record1 = bytes1 ++ (two 2 ++ (window 0 5 10 ++ (window 0 8 9 ++ none)))
+record1 = bytes1 ++ (two 2 ++ (window 0 5 11 ++ (window 0 9 9 ++ none)))
 
--- P1's latest plan, which P3 commits on
+-- P1's latest plan
 abbrev pub latest1 : List ℕ
-latest1 = bytes1 ++ (two 2 ++ (window 0 15 15 ++ (window 0 13 19 ++ none)))
+latest1 = bytes1 ++ (two 2 ++ (window 0 9 15 ++ (window 0 13 13 ++ none)))
+
+-- the record that P3 commits on
+abbrev pub record3 : List ℕ
+record3 = bytes1 ++ (two 2 ++ (window 0 15 15 ++ (window 0 13 19 ++ none)))
 
 abbrev pub bytes4 : List ℕ
 bytes4 = four 5 ++ (two 3 ++ (3 ∷ 3 ∷ 3 ∷ (two 2 ++ (rule 1 2 0 ++ rule 2 3 0))))
@@ -130,10 +135,10 @@ abbrev pub examples : List Example
 examples =
     example 1 (tables 20 2 (ticket1 .rules))
     ((pos 0 ∷ pos 15 ∷ pos 19 ∷ []) ++ ((negative 5 ∷ pos 0 ∷ pos 4 ∷ []) ++ (negative 8 ∷ pos 2 ∷ pos 0 ∷ [])))
-    ∷ example 1 (plans bytes1) (writes record1 6)
-    ∷ example 1 (plansLatest bytes1) (writes latest1 6)
+    ∷ example 1 (plans bytes1) (writes record1 18)
+    ∷ example 1 (plansLatest bytes1) (writes latest1 18)
     ∷ example 2 (commits record1 1 10 10) (writes (bytes1 ++ (two 2 ++ (window 1 10 10 ++ (window 0 8 14 ++ five 1 0 0 0 0)))) 6)
-    ∷ example 3 (commits latest1 2 13 13) (writes (bytes1 ++ (two 2 ++ (window 0 9 15 ++ (window 1 13 13 ++ five 0 0 1 0 0)))) 6)
+    ∷ example 3 (commits record3 2 13 13) (writes (bytes1 ++ (two 2 ++ (window 0 9 15 ++ (window 1 13 13 ++ five 0 0 1 0 0)))) 18)
     ∷ example 4 (plans bytes4) (writes record4 5)
     ∷ example 5 (commits record4 1 2 2) (writes (bytes4 ++ (two 3 ++ (window 1 2 2 ++ (window 0 0 2 ++ (window 0 0 0 ++ five 0 0 0 1 0))))) 2)
     ∷ example 6 (plans (bytes6 1)) (writes (bytes6 1 ++ (two 2 ++ (window 0 1 1 ++ (window 0 0 0 ++ none)))) 0)
@@ -167,7 +172,7 @@ below-most = 254 ∷ 255 ∷ []
 
 abbrev pub narrowings : List Example
 narrowings =
-    example 1 (commits record1 1 6 10) (writes narrowed1 6)
+    example 1 (commits record1 1 6 10) (writes narrowed1 14)
     ∷ example 1 (commits narrowed1 1 10 10) (writes (ticked1 (two 2) (two 0)) 6)
     ∷ example 1 (commits (ticked1 (two 2) (two 0)) 1 10 10) (writes (ticked1 (two 3) (two 0)) 6)
     ∷ example 1 (commits (ticked1 (two 2) (two 0)) 1 6 10) (refuses 13)
@@ -190,6 +195,27 @@ countings =
     ∷ example 1 (commits (ended1 (two 1)) 2 14 14) (refuses 14)
     ∷ example 1 (commits (ended1 (two 5)) 2 14 14) (refuses 1)
     ∷ example 1 (commits (ticked1 most (two 0)) 2 14 14) (writes (both1 most) 0)
+    ∷ []
+
+-- ---- weights (02, change 7): P4 and P10 with other owners
+
+-- of three owners, and of two
+abbrev pub byOwners4 : ℕ → ℕ → ℕ → List ℕ
+byOwners4 a b c = four 5 ++ (two 3 ++ (a ∷ b ∷ c ∷ (two 2 ++ (rule 1 2 0 ++ rule 2 3 0))))
+
+abbrev pub byOwners10 : ℕ → ℕ → List ℕ
+byOwners10 a b = four 5 ++ (two 2 ++ (a ∷ b ∷ two 0))
+
+-- the database has 1..3
+abbrev pub record10 : List ℕ
+record10 = byOwners10 0 4 ++ (two 2 ++ (window 0 0 5 ++ (window 0 1 3 ++ none)))
+
+abbrev pub weighings : List Example
+weighings =
+    example 4 (plans (byOwners4 3 0 3)) (writes (byOwners4 3 0 3 ++ (two 3 ++ (window 0 5 5 ++ (window 0 0 5 ++ (window 0 0 0 ++ none))))) 15)
+    ∷ example 4 (plans (byOwners4 4 4 4)) (writes (byOwners4 4 4 4 ++ (two 3 ++ (window 0 0 0 ++ (window 0 0 0 ++ (window 0 0 0 ++ none))))) 0)
+    ∷ example 10 (plans (byOwners10 0 4)) (writes (byOwners10 0 4 ++ (two 2 ++ (window 0 0 5 ++ (window 0 0 0 ++ none)))) 15)
+    ∷ example 10 (commits record10 1 2 2) (writes (byOwners10 0 4 ++ (two 2 ++ (window 1 2 2 ++ (window 0 0 3 ++ five 1 0 0 0 0)))) 0)
     ∷ []
 
 -- ---- a row, from what is read, decided and written
@@ -244,9 +270,9 @@ read-record1 : wholly readState record1 ≡ got plan1 []
 unfolding readState readWindows readWindow readSame readCounts eachCount readCount tab readTicket readOwner readRule little many
 read-record1 = refl
 
-read-latest1 : wholly readState latest1 ≡ got record3 []
+read-record3 : wholly readState record3 ≡ got state3 []
 unfolding readState readWindows readWindow readSame readCounts eachCount readCount tab readTicket readOwner readRule little many
-read-latest1 = refl
+read-record3 = refl
 
 read-record4 : wholly readState record4 ≡ got plan4 []
 unfolding readState readWindows readWindow readSame readCounts eachCount readCount tab readTicket readOwner readRule little many
@@ -260,10 +286,10 @@ pub examples-hold : All Holds examples
 unfolding readTicket readOwner readRule little many number writeState writeTicket writeRule writeWindow entries bytes each weight weights
 examples-hold =
     p1-table
-    and (λ out scratch e. plans-writes bytes1 read1 out scratch e record1 6 p1 refl refl)
-    and (λ out scratch e. latest-writes bytes1 read1 out scratch e latest1 6 p1-latest refl refl)
+    and (λ out scratch e. plans-writes bytes1 read1 out scratch e record1 18 p1 refl refl)
+    and (λ out scratch e. latest-writes bytes1 read1 out scratch e latest1 18 p1-latest refl refl)
     and (λ out scratch e. commits-writes record1 read-record1 1 10 10 out scratch e _ 6 p2 refl refl)
-    and (λ out scratch e. commits-writes latest1 read-latest1 2 13 13 out scratch e _ 6 p3 refl refl)
+    and (λ out scratch e. commits-writes record3 read-record3 2 13 13 out scratch e _ 18 p3 refl refl)
     and (λ out scratch e. plans-writes bytes4 read4 out scratch e record4 5 p4 refl refl)
     and (λ out scratch e. commits-writes record4 read-record4 1 2 2 out scratch e _ 2 p5 refl refl)
     and (λ out scratch e. plans-writes (bytes6 1) {k = ticket6 (pos 1)} refl out scratch e _ 0 p6 refl refl)
@@ -282,7 +308,7 @@ read-narrowed1 = refl
 pub narrowings-hold : All Holds narrowings
 unfolding readState readWindows readWindow readSame readCounts eachCount readCount tab readTicket readOwner readRule little many number writeState writeTicket writeRule writeWindow entries bytes each weight weights
 narrowings-hold =
-    (λ out scratch e. commits-writes record1 read-record1 1 6 10 out scratch e _ 6 narrowed refl refl)
+    (λ out scratch e. commits-writes record1 read-record1 1 6 10 out scratch e _ 14 narrowed refl refl)
     and (λ out scratch e. commits-writes narrowed1 read-narrowed1 1 10 10 out scratch e _ 6 narrowed-again refl refl)
     and (λ out scratch e. commits-writes (ticked1 (two 2) (two 0)) {s = tick1 2} refl 1 10 10 out scratch e _ 6 (narrowed-same 2 (λ q. omega arith)) refl refl)
     and (λ out scratch e. commits-refused (ticked1 (two 2) (two 0)) {s = tick1 2} refl 1 6 10 out scratch e (narrowed-stays 2))
@@ -300,4 +326,13 @@ countings-hold =
     and (λ out scratch e. committing-read (ended1 (two 1)) 2 14 14 out scratch e)
     and (λ out scratch e. committing-read (ended1 (two 5)) 2 14 14 out scratch e)
     and (λ out scratch e. commits-writes (ticked1 most (two 0)) {s = tick1 65535} refl 2 14 14 out scratch e _ 0 counted-own refl refl)
+    and tt
+
+pub weighings-hold : All Holds weighings
+unfolding readState readWindows readWindow readSame readCounts eachCount readCount tab readTicket readOwner readRule little many number writeState writeTicket writeRule writeWindow entries bytes each weight weights
+weighings-hold =
+    (λ out scratch e. plans-writes (byOwners4 3 0 3) {k = owned4 (3 ∷ 0 ∷ 3 ∷ [])} refl out scratch e _ 15 camera-between refl refl)
+    and (λ out scratch e. plans-writes (byOwners4 4 4 4) {k = owned4 (4 ∷ 4 ∷ 4 ∷ [])} refl out scratch e _ 0 database-alone refl refl)
+    and (λ out scratch e. plans-writes (byOwners10 0 4) {k = owned10 (0 ∷ 4 ∷ [])} refl out scratch e _ 15 camera-database refl refl)
+    and (λ out scratch e. commits-writes record10 {s = state10} refl 1 2 2 out scratch e _ 0 database-contains refl refl)
     and tt

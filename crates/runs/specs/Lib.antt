@@ -13,7 +13,8 @@
 --   Latest      `latest-run`, of every latest plan and every list on its record; it returns and refuses as planning does (`latest-as-planning`,
 --               `latest-refusal`); length and total follow from its record (`latest-tells`). It answers 02's change 1.
 -- Examples shows the definitions at work: P1 to P10 of 01 as one table, the table of distances and P1's latest plan in it (`examples-hold`); P1's event 1
--- narrowed again as another (`narrowings-hold`), the counts of its two devices as a third (`countings-hold`).
+-- narrowed again as another (`narrowings-hold`), the counts of its two devices as a third (`countings-hold`), P4 and P10 with other owners as a fourth
+-- (`weighings-hold`).
 --
 -- That the code is these functions is said by its contracts, in crate `plan`.
 pub mod Calls

@@ -32,7 +32,7 @@ pub record LatestPlan (k : Ticket) (s : State) : Type 0 where
 
 -- ---- the latest plan is the only one
 
-latest-chosen : (k : Ticket) → Distinct k → T (consistent k) → ChosenLatest k (Fit k) (plannedLatest k .windows)
+pub latest-chosen : (k : Ticket) → Distinct k → T (consistent k) → ChosenLatest k (Fit k) (plannedLatest k .windows)
 latest-chosen k d t =
     let w = consistent-fits k t in
     chosenLatest-under k (λ vs. T (fits k vs)) (Fit k) (fits-fit k) (fit-fits k d) (plannedLatest k .windows)

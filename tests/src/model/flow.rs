@@ -1,10 +1,10 @@
 //! Widest and then earliest or latest windows of any size, by minimum-cost flow.
 //! Node 0 is session start; event i opens at node i and closes at node n + i. An arc from a to b with cost c
 //! demands: tick of b minus tick of a is at most c. Total width is bounded by the cost of a flow that leaves
-//! each open and arrives at each close; a cheapest flow, found by Bellman and Ford, meets the bound, and the
+//! each open, as much as its event weighs, and arrives at each close; a cheapest flow, found by Bellman and Ford, meets the bound, and the
 //! windows that reach it are those that keep the demands of the residual network.
 
-use super::{distances, Prefer, Range, Ticket, Window, WORTH};
+use super::{distances, Prefer, Range, Ticket, Window, WEIGHTS};
 use std::collections::VecDeque;
 
 /// Arc k and its reverse are 2k and 2k + 1 in the residual network.
@@ -119,9 +119,9 @@ fn cheapest_flow(ticket: &Ticket, ranges: &[Range]) -> Option<Residual> {
     let demands = demands(ticket, ranges);
     distances::shortest(nodes, &demands, 0)?;
     let mut residual = Residual::of(nodes, &demands);
-    let mut wanted: Vec<i64> = ticket.owners.iter().map(|&owner| WORTH[owner as usize]).collect();
+    let mut wanted: Vec<i64> = ticket.owners.iter().map(|&owner| WEIGHTS[owner as usize]).collect();
     for source in 1..=n {
-        let mut units = WORTH[ticket.owners[source - 1] as usize];
+        let mut units = WEIGHTS[ticket.owners[source - 1] as usize];
         while units > 0 {
             let (cost, by) = residual.cheapest(source);
             let sink = (1..=n).filter(|&k| wanted[k - 1] > 0).min_by_key(|&k| cost[n + k])?;

@@ -83,8 +83,8 @@ pub const DEVICES: usize = 5;
 /// The greatest count of a device: two bytes hold it.
 pub const MOST_ACCEPTED: u32 = 65_535;
 
-/// What a tick of width counts, by owner.
-pub const WORTH: [i64; DEVICES] = [1, 1, 1, 1, 1];
+/// What a tick of width counts, by owner: 3 for the camera, 1 for wheel, lamps and stage, 0 for the database.
+pub const WEIGHTS: [i64; DEVICES] = [3, 1, 1, 1, 0];
 
 /// How many flags are set of the events that each device owns.
 pub fn flags(owners: &[u8], committed: &[bool]) -> [u32; DEVICES] {
@@ -116,7 +116,7 @@ impl Ticket {
 
     pub fn total(&self, windows: &[Window]) -> i64 {
         let widths = windows.iter().map(|w| w.close as i64 - w.open as i64);
-        self.owners.iter().zip(widths).map(|(&owner, width)| WORTH[owner as usize] * width).sum()
+        self.owners.iter().zip(widths).map(|(&owner, width)| WEIGHTS[owner as usize] * width).sum()
     }
 
     /// The fit set of windows within `ranges` that is widest and then the preferred one; none if none is fit.

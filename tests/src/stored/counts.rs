@@ -100,8 +100,8 @@ impl Stored<'_> {
 /// stage's.
 pub fn whole_records(case: &mut Stored) {
     let zeros = [5, 0, 0, 0, 0, 0, 0, 0, 0, 0, 0, 0];
-    let plan = whole_1([[0, 5, 0, 0, 0, 10, 0, 0, 0], [0, 8, 0, 0, 0, 9, 0, 0, 0]], zeros);
-    let latest = whole_1([[0, 15, 0, 0, 0, 15, 0, 0, 0], [0, 13, 0, 0, 0, 19, 0, 0, 0]], zeros);
+    let plan = whole_1([[0, 5, 0, 0, 0, 11, 0, 0, 0], [0, 9, 0, 0, 0, 9, 0, 0, 0]], zeros);
+    let latest = whole_1([[0, 9, 0, 0, 0, 15, 0, 0, 0], [0, 13, 0, 0, 0, 13, 0, 0, 0]], zeros);
     case.says(plan.len() == 78, "22 + 10 x 2 + 6 x 6 bytes");
     case.planned(&two_trains(), &plan, &latest, "P1's plans");
     let first = [1, 10, 0, 0, 0, 10, 0, 0, 0];
@@ -114,7 +114,9 @@ pub fn whole_records(case: &mut Stored) {
     case.committed(&both, (1, 10, 10), &again, "P2, then event 2, then event 1 again");
     let third = [1, 13, 0, 0, 0, 13, 0, 0, 0];
     let p3 = whole_1([[0, 9, 0, 0, 0, 15, 0, 0, 0], third], [5, 0, 0, 0, 0, 0, 1, 0, 0, 0, 0, 0]);
-    case.committed(&latest, (2, 13, 13), &p3, "P3");
+    case.committed(&latest, (2, 13, 13), &p3, "P1's latest plan, then event 2");
+    let wider = whole_1([[0, 15, 0, 0, 0, 15, 0, 0, 0], [0, 13, 0, 0, 0, 19, 0, 0, 0]], zeros);
+    case.committed(&wider, (2, 13, 13), &p3, "P3");
 
     let of_stage = |ticket: &Ticket, windows: &[Flagged], count| whole(ticket, windows, [0, 0, 0, count, 0]);
     let p4 = three_in_sequence();
@@ -134,7 +136,7 @@ pub fn whole_records(case: &mut Stored) {
     case.planned(&p10, &plan, &plan, "P10's plans");
 }
 
-/// All five devices, two of them with one event; what is refused counts for nobody. From a plan, from counts of any size,
+/// All five devices, two of them with one event; what is refused counts for nobody. From zeros, from counts of any size,
 /// and from counts that the run brings to 65,535.
 pub fn each_device(case: &mut Stored) {
     let owners = [4, 2, 0, 3, 1, 0, 2, 4];
@@ -160,9 +162,10 @@ pub fn each_device(case: &mut Stored) {
         ((4, 1, 1), Ok([4, 2, 2, 3, 4])),
     ];
     let ticket = ticket(10, &owners, &[]);
-    let plan = whole(&ticket, &[(0, 0, 10); 8], [0; 5]);
-    case.planned(&ticket, &plan, &plan, "the plans of a ticket with all five devices");
-    case.counted(&owners, [0; 5], &steps, "each device's acceptances from a plan");
+    let planned =
+        |database: Flagged| whole(&ticket, &owners.map(|o| if o == 4 { database } else { (0, 0, 10) }), [0; 5]);
+    case.planned(&ticket, &planned((0, 0, 0)), &planned((0, 10, 10)), "the plans of a ticket with all five devices");
+    case.counted(&owners, [0; 5], &steps, "each device's acceptances from zeros");
     case.counted(&owners, [7, 300, 0, 65_000, 12], &steps, "each device's acceptances from elsewhere");
     let full: [Step; 5] = [(1, 3, 3), (2, 5, 5), (3, 4, 4), (4, 1, 1), (5, 9, 9)].map(|again| (again, Err(18)));
     let steps = [&steps[..], &full].concat();
@@ -452,12 +455,16 @@ fn full_ticket() -> Ticket {
 pub fn largest(case: &mut Stored) {
     let ticket = full_ticket();
     let mut windows = [(0, 0, 1_000_000); 40];
-    let plan = whole(&ticket, &windows, [0; 5]);
-    case.says(plan.len() == 1_958 && ENOUGH.out == 1_958, "the largest record");
-    case.planned(&ticket, &plan, &plan, "plans of the largest ticket");
+    let wide = whole(&ticket, &windows, [0; 5]);
+    case.says(wide.len() == 1_958 && ENOUGH.out == 1_958, "the largest record");
+    let planned = |database: u32| {
+        let window = |&owner: &u8| if owner == 4 { (0, database, database) } else { (0, 0, 1_000_000) };
+        whole(&ticket, &ticket.owners.iter().map(window).collect::<Vec<_>>(), [0; 5])
+    };
+    case.planned(&ticket, &planned(0), &planned(1_000_000), "plans of the largest ticket");
     windows[39] = (1, 7, 7);
     let after = whole(&ticket, &windows, [0, 0, 0, 0, 1]);
-    case.committed(&plan, (40, 7, 7), &after, "a commitment on the largest record");
+    case.committed(&wide, (40, 7, 7), &after, "a commitment on the largest record");
     windows[0] = (1, 0, 1_000_000);
     let both = whole(&ticket, &windows, [1, 0, 0, 0, 1]);
     case.committed(&after, (1, 0, 1_000_000), &both, "two commitments on the largest record");

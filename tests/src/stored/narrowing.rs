@@ -126,7 +126,7 @@ pub fn others_stay(case: &mut Stored) {
 /// the other two get 8 ticks: as wide as 7..12 and 2..5 are 8..12 and 2..6, and 9..12 and 2..7. If event 3 takes 7..12
 /// first, event 2 gets 2..7 and keeps it.
 pub fn widest_then_earliest(case: &mut Stored) {
-    let ticket = ticket(12, &[2, 2, 0, 3], &[(1, 3, 0), (1, 4, 0), (3, 2, 0), (4, 2, 0), (1, 2, -2), (2, 1, 10)]);
+    let ticket = ticket(12, &[2, 2, 1, 3], &[(1, 3, 0), (1, 4, 0), (3, 2, 0), (4, 2, 0), (1, 2, -2), (2, 1, 10)]);
     let latest = case.plan_latest(&ticket).unwrap_or_default();
     let steps: [Step; 2] = [
         ((3, 2, 12), Ok(&[(12, 12), (2, 2), (2, 12), (2, 12)])),
@@ -167,7 +167,7 @@ pub fn no_growing(case: &mut Stored) {
 /// A session of 1,000 ticks: the camera's event 1 moves its open a tick at a time, which event 2, that comes before it,
 /// gets; then its close, which nobody gets.
 pub fn tick_by_tick(case: &mut Stored) {
-    let plan = case.plan(&ticket(1_000, &[0, 4], &[(1, 2, 0)]));
+    let plan = case.plan(&ticket(1_000, &[0, 3], &[(1, 2, 0)]));
     case.windows(&plan, &[(0, 1_000), (0, 0)], "the plan");
     let mut current = plan.unwrap_or_default();
     for tick in 1..=100 {
