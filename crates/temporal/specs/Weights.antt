@@ -42,10 +42,10 @@ part (suc zero) n = omega arith
 part (suc (suc zero)) n = omega arith
 part (suc (suc (suc zero))) n = omega arith
 part (suc (suc (suc (suc zero)))) n = omega arith
-part (suc (suc (suc (suc (suc o))))) n = rw (other 0 (omega arith), other 1 (omega arith), other 2 (omega arith), other 3 (omega arith)) (omega arith)
+part (suc (suc (suc (suc (suc o))))) n = rw (none 0 (omega arith), none 1 (omega arith), none 2 (omega arith), none 3 (omega arith)) (omega arith)
   where
-    other : (device : ℕ) → device ≤ 4 → eqb (suc (suc (suc (suc (suc o))))) device ≡ false
-    other device l = ne-eqb (suc (suc (suc (suc (suc o))))) device (λ e. omega arith)
+    none : (device : ℕ) → device ≤ 4 → eqb (suc (suc (suc (suc (suc o))))) device ≡ false
+    none device l = ne-eqb (suc (suc (suc (suc (suc o))))) device (λ e. omega arith)
 
 summed : (owners : List ℕ) (ws : List Window)
     → totalOf owners ws ≡ 3 * widths 0 owners ws + (widths 1 owners ws + (widths 2 owners ws + widths 3 owners ws))
@@ -53,7 +53,7 @@ summed [] ws = refl
 summed (owner ∷ owners) [] = refl
 summed (owner ∷ owners) (w ∷ ws) = omega (arith, part owner (w .closes - w .opens), summed owners ws)
 
--- three times the camera's widths, and those of wheel, lamps and stage
+-- three times the camera's widths, and those of wheel, lamps and stage: of every ticket, since an owner that is no device counts in neither
 pub total-widths : (k : Ticket) (ws : List Window)
     → total k ws ≡ 3 * widths 0 (k .owners) ws + (widths 1 (k .owners) ws + (widths 2 (k .owners) ws + widths 3 (k .owners) ws))
 total-widths k ws = summed (k .owners) ws
@@ -73,6 +73,7 @@ weightless (owner ∷ owners) h (w ∷ ws) = rw (h .0) (omega (arith, weightless
 pub database-total : (k : Ticket) → OnlyDatabase k → (ws : List Window) → total k ws ≡ 0
 database-total k d ws = weightless (k .owners) d ws
 
+-- what is chosen of the sets of which P holds, in a plan or after a commitment, is the earliest of them, or the latest
 module _ (k : Ticket) (d : OnlyDatabase k) (P : List Window → Type 0) (ws : List Window) where
   pub database-earliest : Chosen k P ws → (vs : List Window) → P vs → Sooner ws vs
   database-earliest c vs h = c .earliest vs h (database-total k d vs ∙ sym (database-total k d ws))
