@@ -55,11 +55,12 @@
  *
  * THE TOTAL WIDTH of a plan, by which windows are chosen: the sum over the events of close - open times the
  *   weight of the event's owner, BEYUNLAK_WEIGHT. A tick of width counts 3 for the camera, 1 for wheel, lamps
- *   and stage, and 0 for the database. So the total is three times the widths of the camera's windows plus those
- *   of wheel, lamps and stage, at most 120,000,000. It is not stored: it follows from the record.
- *   Windows of the database do not count, and are as early (in the latest plan as late) as the others' allow;
- *   like all windows they keep every rule, and contain their former ones after a commitment. With events of the
- *   database alone every total is 0, and each window of the plan is a single tick, the event's earliest time.
+ *   and stage, and 0 for the database. So the total is three times the widths of the camera's windows plus
+ *   those of wheel, lamps and stage, at most 120,000,000. It is not stored: it follows from the record.
+ *   Windows of the database do not count, and are as early (in the latest plan as late) as the others' allow.
+ *   Every choice from them keeps the rules, as from all windows, and after a commitment they contain their
+ *   former ones. With events of the database alone every total is 0, and each window of the plan is a single
+ *   tick, the event's earliest time.
  *
  * A TABLE, the output of beyunlak_table: (n + 1) * (n + 1) signed numbers, row by row from point 0 on, so that
  *   D(i, j) stands at place i * (n + 1) + j. D(i, j) is the largest time of j minus time of i, over all times
@@ -198,7 +199,7 @@ extern "C" {
 #define BEYUNLAK_DROPPED_LENGTH(d) (2 + 2 * (size_t)(d))
 #define BEYUNLAK_DROPPED_MAX 514
 
-/* The devices that own events, how many they are, and what a tick of their windows counts in the total width. */
+/* The devices that own events, how many they are, and what a tick of width counts in the total for each. */
 #define BEYUNLAK_DEVICES 5
 enum beyunlak_owner {
     BEYUNLAK_CAMERA = 0,
@@ -254,8 +255,8 @@ enum beyunlak_answer {
 uint32_t beyunlak_plan(const uint8_t *ticket, size_t ticket_len, uint8_t *out, size_t out_len);
 
 /*
- * The latest plan of a ticket: of the sets of the largest total width that beyunlak_plan chooses from, the one in
- * which every open and every close is latest. A commitment on its record prefers the earliest,
+ * The latest plan of a ticket: of the sets of the largest total width that beyunlak_plan chooses from, the one
+ * in which every open and every close is latest. A commitment on its record prefers the earliest,
  * as on any record. Answers 0 to 10, the same number as beyunlak_plan.
  */
 uint32_t beyunlak_plan_latest(const uint8_t *ticket, size_t ticket_len, uint8_t *out, size_t out_len);
