@@ -57,10 +57,9 @@
  *   weight of the event's owner, BEYUNLAK_WEIGHT. A tick of width counts 3 for the camera, 1 for wheel, lamps
  *   and stage, and 0 for the database. So the total is three times the widths of the camera's windows plus
  *   those of wheel, lamps and stage, at most 120,000,000. It is not stored: it follows from the record.
- *   Windows of the database do not count, and are as early (in the latest plan as late) as the others' allow.
- *   Every choice from them keeps the rules, as from all windows, and after a commitment they contain their
- *   former ones. With events of the database alone every total is 0, and each window of the plan is a single
- *   tick, the event's earliest time.
+ *   Windows of the database do not count: in both plans each is a single tick, as early (in the latest plan as
+ *   late) as the others' windows allow. After a commitment they contain their former ones, as all free windows
+ *   do. With events of the database alone every total is 0, and the plan has each at its earliest time.
  *
  * A TABLE, the output of beyunlak_table: (n + 1) * (n + 1) signed numbers, row by row from point 0 on, so that
  *   D(i, j) stands at place i * (n + 1) + j. D(i, j) is the largest time of j minus time of i, over all times

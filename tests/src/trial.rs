@@ -299,8 +299,8 @@ impl<'a> Trial<'a> {
     }
 
     /// Claims of a plan that need no model, by the library's other answers: wheel, lamps and stage may change places; events
-    /// of the camera alone have the windows that the wheel's would have; those of the database alone have a tick each, the
-    /// earliest or the latest time.
+    /// of the camera alone have the windows that the wheel's would have; an event of the database has a tick, where all
+    /// events are its the earliest or the latest time.
     pub fn is_weighed(&mut self, prefer: Prefer, ticket: &Ticket, record: &[u8]) {
         let call = || format!("{prefer:?} plan of {} wrote {}", hex(&writing::ticket(ticket)), hex(record));
         let library = self.library;
@@ -316,6 +316,9 @@ impl<'a> Trial<'a> {
         let number = library.plan_door(prefer, &writing::ticket(&others), &mut out);
         let same = number == 0 && windows(&out[..record.len()]) == windows(record);
         self.expect(same, "devices of equal weight", call);
+        let given = windows(record).unwrap_or_default();
+        let ticks = given.iter().zip(&ticket.owners).all(|(window, &owner)| owner != 4 || window.open == window.close);
+        self.expect(ticks, "a tick of the database", call);
         if !alone(4) {
             return;
         }
@@ -326,8 +329,8 @@ impl<'a> Trial<'a> {
             Prefer::Earliest => -table[event * size] as u32,
             Prefer::Latest => table[event] as u32,
         };
-        let ticks = (1..size).map(|event| Window { open: time(event), close: time(event) }).collect();
-        self.expect(windows(record) == Ok(ticks), "ticks of the database", call);
+        let times: Vec<Window> = (1..size).map(|event| Window { open: time(event), close: time(event) }).collect();
+        self.expect(given == times, "times of the database", call);
     }
 
     /// Number, length, bytes and rest of what is written; `what` says it. What the library wrote, if it accepts.

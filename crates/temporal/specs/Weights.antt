@@ -1,23 +1,24 @@
--- The weights of 02, change 7: what they are (`weights-are`), what the total counts (`total-widths`), and what is chosen where every tick counts 0: of a
+-- The weights of 02, change 7: what they are (`weights-are`), what the total counts (`total-widths`), and what is chosen where a tick counts 0. In a
 -- ticket with only database events a choice is the earliest, or the latest, of all the sets from which it is made (`database-earliest`, `database-latest`),
--- so either plan is that of all fit sets (`database-plan`, `database-planLatest`); each window of the plan is a tick (`database-ticks`). Rests on LatestRun.
+-- so either plan is that of all fit sets (`database-plan`, `database-planLatest`), the plan at the earliest times (`database-times`). In every ticket a
+-- database event's window is a tick in either plan (`database-tick`, `database-tick-latest`). Rests on LatestRun.
 use mathlib.Core.Path.{_≡_, refl, sym, ap, _∙_}
 use mathlib.Core.Bool.{false, cond}
 use mathlib.Core.List.{List, [], _∷_, map}
-use Prim.Native.Nat.{ℕ, zero, suc, _+_, _*_, _-_, _≤_}
+use Prim.Native.Nat.{ℕ, zero, suc, _+_, _*_, _-_, _≤_, _<_}
 use native.Mathlib.Omega.{arith}
 use borrow.Author.Tests.{ne-eqb}
 use lib.Dec.{T, eqb}
-use lib.ListN.{length-map, List·getD-map}
+use lib.ListN.{getD, set}
 use Rattle.temporal.specs.Lists.{All, T-true}
-use Rattle.temporal.specs.Ticket.{Ticket, time, Schedule, Window, origin, windowOf, Fit, weights, weight, totalOf, total}
-use Rattle.temporal.specs.Ends.{fits-fit, fit-ends}
+use Rattle.temporal.specs.Ticket.{Ticket, events, time, Schedule, Window, origin, windowOf, Fit, weights, weight, totalOf, total}
+use Rattle.temporal.specs.Ends.{ends-fit, fit-ends, fits-fit}
 use Rattle.temporal.specs.Best.{Sooner, Chosen, ChosenLatest}
 use Rattle.temporal.specs.Distance.{consistent}
-use Rattle.temporal.specs.Plan.{accepted, planned, plan, plannedLatest, planLatest}
-use Rattle.temporal.specs.FitSets.{still, at-still, schedule-fits}
+use Rattle.temporal.specs.Plan.{ownerOf, accepted, planned, plan, plannedLatest, planLatest}
+use Rattle.temporal.specs.FitSets.{still, at-still, schedule-fits, put-same, narrowed}
 use Rattle.temporal.specs.Run.{Valid}
-use Rattle.temporal.specs.RunHolds.{distinct, consistent-has-plan}
+use Rattle.temporal.specs.RunHolds.{distinct, planned-chosen, consistent-has-plan}
 use Rattle.temporal.specs.LatestRun.{latest-chosen}
 
 -- "3 for the camera, 1 for wheel, lamps and stage, 0 for the database"
@@ -96,33 +97,59 @@ module _ (k : Ticket) (v : Valid k) (d : OnlyDatabase k) (t : T (consistent k)) 
       let c = latest-chosen k (distinct k v) t in
       (rw (T-true (consistent k) t), c .allowed, database-latest k d (Fit k) (plannedLatest k .windows) c)
 
-  -- each window of the plan is a tick, at or before the event's time in every schedule
-  pub database-ticks : (p : ℕ) → (windowOf (planned k .windows) p .closes ≡ windowOf (planned k .windows) p .opens)
-      × ((ts : List ℕ) → Schedule k ts → windowOf (planned k .windows) p .closes ≤ time ts p)
+  -- each event's window closes at or before its time in every schedule: with `database-tick`, at its earliest time
+  pub database-times : (ts : List ℕ) → Schedule k ts → (p : ℕ) → windowOf (planned k .windows) p .closes ≤ time ts p
   unfolding still
-  database-ticks p = (omega (arith, ordered p, before ts opening p, at p), λ us s. before us s p)
-    where
-      ws : List Window
-      ws = planned k .windows
+  database-times ts s p =
+      omega (arith, database-plan .2 (map still ts) (fits-fit k (map still ts) (schedule-fits k ts s)) p, ap (λ (w : Window). w .closes) (at-still ts p))
 
-      ordered : (q : ℕ) → windowOf ws q .opens ≤ windowOf ws q .closes
-      ordered q = fit-ends k (distinct k v) ws (database-plan .1) .ordered q
+-- ---- an event of the database, beside others
 
-      before : (us : List ℕ) → Schedule k us → (q : ℕ) → windowOf ws q .closes ≤ time us q
-      before us s q =
-          omega (arith, database-plan .2 (map still us) (fits-fit k (map still us) (schedule-fits k us s)) q, ap (λ (w : Window). w .closes) (at-still us q))
+-- its window may be any: the total stays
+set-weightless : (owners : List ℕ) (ws : List Window) (i : ℕ) (w : Window) → getD owners i 5 ≡ 4 → totalOf owners (set ws i w) ≡ totalOf owners ws
+unfolding weight weights
+set-weightless [] ws i w o = refl
+set-weightless (owner ∷ owners) [] i w o = refl
+set-weightless (owner ∷ owners) (v ∷ vs) zero w o = rw o (omega arith)
+set-weightless (owner ∷ owners) (v ∷ vs) (suc i) w o = ap (λ n. weight owner * (v .closes - v .opens) + n) (set-weightless owners vs i w o)
 
-      -- the opens are a schedule
-      ts : List ℕ
-      ts = map (λ (w : Window). w .opens) ws
+module _ (k : Ticket) (v : Valid k) (t : T (consistent k)) (i : ℕ) (l : i < events k) (o : ownerOf k (suc i) ≡ 4) where
+  -- a fit set with a tick in place of its window is fit
+  tick-fit : (ws : List Window) → Fit k ws → (n : ℕ) → windowOf ws (suc i) .opens ≤ n → n ≤ windowOf ws (suc i) .closes → Fit k (set ws i (still n))
+  unfolding still
+  tick-fit ws f n a b = ends-fit k (set ws i (still n)) (narrowed k ws (fit-ends k (distinct k v) ws f) (suc i) (still n) (omega arith) l a (omega arith) b)
 
-      at : (q : ℕ) → time ts q ≡ windowOf ws q .opens
-      at zero = refl
-      at (suc i) = List·getD-map (λ (w : Window). w .opens) ws i origin
+  at-tick : (ws : List Window) → Fit k ws → (n : ℕ) → windowOf (set ws i (still n)) (suc i) ≡ still n
+  at-tick ws f n = put-same origin ws (suc i) (still n) (omega arith) (rw (f .count) l)
 
-      opening : Schedule k ts
-      opening = database-plan .1 .every ts (record {
-        count = length-map ws (λ (w : Window). w .opens);
-        after = λ q. omega (arith, at q);
-        before = λ q. omega (arith, at q, ordered q);
-      })
+  -- in the plan its window is a tick
+  pub database-tick : windowOf (planned k .windows) (suc i) .closes ≡ windowOf (planned k .windows) (suc i) .opens
+  unfolding still
+  database-tick =
+      let ws : List Window = planned k .windows in
+      let c = planned-chosen k (distinct k v) t in
+      let n : ℕ = windowOf ws (suc i) .opens in
+      let ordered = fit-ends k (distinct k v) ws (c .allowed) .ordered (suc i) in
+      let fit = tick-fit ws (c .allowed) n (omega arith) ordered in
+      omega (
+        arith,
+        ordered,
+        c .earliest (set ws i (still n)) fit (set-weightless (k .owners) ws i (still n) o) (suc i),
+        ap (λ (w : Window). w .closes) (at-tick ws (c .allowed) n),
+      )
+
+  -- and in the latest plan
+  pub database-tick-latest : windowOf (plannedLatest k .windows) (suc i) .closes ≡ windowOf (plannedLatest k .windows) (suc i) .opens
+  unfolding still
+  database-tick-latest =
+      let ws : List Window = plannedLatest k .windows in
+      let c = latest-chosen k (distinct k v) t in
+      let n : ℕ = windowOf ws (suc i) .closes in
+      let ordered = fit-ends k (distinct k v) ws (c .allowed) .ordered (suc i) in
+      let fit = tick-fit ws (c .allowed) n ordered (omega arith) in
+      omega (
+        arith,
+        ordered,
+        c .latest (set ws i (still n)) fit (set-weightless (k .owners) ws i (still n) o) (suc i),
+        ap (λ (w : Window). w .opens) (at-tick ws (c .allowed) n),
+      )
