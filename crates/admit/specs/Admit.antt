@@ -106,10 +106,12 @@ module _ {net : List ℕ} {m nodes : ℕ} {pot tails heads : List ℕ} (G : Grow
           (λ q. absurd (omega (arith, R .found l .1, getD-set-other {A = ℕ} (replicate 81 0) b r 1 0 q, zeros-at 81 r))))
           (λ x. R .all (omega arith) b lb .0)
 
--- what `admit` asks of the edge
-pub record Admissible (net : List ℕ) (m nodes a b c : ℕ) : Type 0 where
+-- what `admit` asks of the edge, and of the lists that it is put into
+pub record Admissible (net : List ℕ) (m nodes : ℕ) (tails heads : List ℕ) (a b c : ℕ) : Type 0 where
   pub size : 4 * m + 3 < length net
-  pub room : m < 2 * nodes + 317
+  pub room : m < 4000
+  pub by-tail : 81 + (m + 2 - 2 * nodes) < length tails
+  pub by-head : 81 + (m + 2 - 2 * nodes) < length heads
   pub tail : a < nodes
   pub head : b < nodes
   pub cost : c ≤ 2000000
@@ -121,7 +123,7 @@ pub record Admits (net net' : List ℕ) (m nodes : ℕ) (pot tails heads : List 
   pub refused : r ≡ false → Growing net' m nodes pot tails heads × Impossible net m a b c
 
 module _ {net net' : List ℕ} {m nodes : ℕ} {pot tails heads : List ℕ} {a b c : ℕ} (P : Put net net' m a b c) (A : Approached net' m nodes pot tails heads a b c) where
-  pub admits-yes : {tails' heads' : List ℕ} (place : ℕ) → Admissible net m nodes a b c → at pot b + 1000000 ≤ at pot a + c → place ≡ 81 + (m + 2 - 2 * nodes)
+  pub admits-yes : {tails' heads' : List ℕ} (place : ℕ) → Admissible net m nodes tails heads a b c → at pot b + 1000000 ≤ at pot a + c → place ≡ 81 + (m + 2 - 2 * nodes)
       → tails' ≡ set (set tails place (at tails a)) a (m + 1) → heads' ≡ set (set heads place (at heads b)) b (m + 1) → Admits net net' m nodes pot tails' heads' a b c true
   admits-yes place F d there T H =
       let N = A .growing .flowless .network in
@@ -131,9 +133,9 @@ module _ {net net' : List ℕ} {m nodes : ℕ} {pot tails heads : List ℕ} {a b
         admitted = λ e.
             record {
               flowless = flowless-more (A .growing .flowless) (P .edge) (omega (arith, P .extends .long, F .size)) (F .room) (F .tail) (F .head) (F .cost) d;
-              by-tail = index-link place a (A .growing .by-tail) (l .1) (omega (arith, F .room, N .some)) (omega (arith, F .tail, N .few))
+              by-tail = index-link place a (A .growing .by-tail) (l .1) (omega (arith, F .by-tail)) (omega (arith, F .tail, N .few))
                   (end-tail net' m ∙ P .edge .tail) (omega (arith, N .some)) T;
-              by-head = index-link place b (A .growing .by-head) (l .1) (omega (arith, F .room, N .some)) (omega (arith, F .head, N .few)) (P .edge .head) (omega (arith, N .some)) H;
+              by-head = index-link place b (A .growing .by-head) (l .1) (omega (arith, F .by-head)) (omega (arith, F .head, N .few)) (P .edge .head) (omega (arith, N .some)) H;
             };
         refused = λ e. differ e;
       }

@@ -11,8 +11,8 @@ fn approach(
     net: &[u32],
     m: usize,
     nodes: usize,
-    tails: &[u32; 400],
-    heads: &[u32; 400],
+    tails: &[u32],
+    heads: &[u32],
     pot: &mut [u32; 81],
     a: usize,
     b: usize,
@@ -51,15 +51,15 @@ pub fn admit(
     net: &mut [u32],
     m: usize,
     nodes: usize,
-    tails: &mut [u32; 400],
-    heads: &mut [u32; 400],
+    tails: &mut [u32],
+    heads: &mut [u32],
     pot: &mut [u32; 81],
     a: usize,
     b: usize,
     c: u32,
 ) -> bool
     requires { ⌜ Growing (now net) m nodes (now pot) (now tails) (now heads) ⌝ }
-    requires { ⌜ Admissible (now net) m nodes a b c ⌝ }
+    requires { ⌜ Admissible (now net) m nodes (now tails) (now heads) a b c ⌝ }
     ensures { λ r. ⌜ Admits (now (net .entry)) (now (net .exit)) m nodes (now (pot .exit)) (now (tails .exit)) (now (heads .exit)) a b c r ⌝ }
 {
     network::put(net, m, a, b, c);

@@ -16,7 +16,7 @@ use Rattle.network.specs.Stored.{at, flowOf, stored, Network}
 use Rattle.network.specs.Edges.{EdgeIs, edge-meets, meets-edge, Extends, extends-edge, Put, Boxes, boxes-kept, by-boxes}
 use Rattle.network.specs.Grow.{Flowless}
 use Rattle.ticket.specs.declared.Ticket.{Ticket}
-use Rattle.potentials.specs.Arrays.{Given}
+use Rattle.potentials.specs.Arrays.{Held}
 use Rattle.potentials.specs.Nodes.{closeNode, close-most}
 use Rattle.demands.specs.Rules.{Obeyed, obeyed-same, biased-most}
 
@@ -92,8 +92,8 @@ pub record Meeting (t : Ticket) (low high p : ℕ → ℕ) : Type 0 where
 abbrev pub Limits : Ticket → (ℕ → ℕ) → (ℕ → ℕ) → Type 0
 Limits t low high = (v : ℕ) → 0 < v → v < 2 * t .events + 1 → (low v ≤ 1000000) × (high v ≤ 1000000)
 
-pub meeting-same : {t : Ticket} → Given t → (low high p q : ℕ → ℕ) → ((v : ℕ) → v < 2 * t .events + 1 → q v ≡ p v) → Meeting t low high p → Meeting t low high q
-meeting-same {t} G low high p q e M = record {
+pub meeting-same : {limit : ℕ} {t : Ticket} → Held limit t → (low high p q : ℕ → ℕ) → ((v : ℕ) → v < 2 * t .events + 1 → q v ≡ p v) → Meeting t low high p → Meeting t low high q
+meeting-same {t = t} G low high p q e M = record {
   origin = e 0 (omega arith) ∙ M .origin;
   above-low = λ v lo hi. omega (arith, e v hi, M .above-low v lo hi);
   below-high = λ v lo hi. omega (arith, e v hi, M .below-high v lo hi);
@@ -101,7 +101,7 @@ meeting-same {t} G low high p q e M = record {
   obeys = obeyed-same G (t .events) p q (λ v l. e v (omega arith)) (M .obeys);
 }
 
-module _ {net : List ℕ} {t : Ticket} {low high : ℕ → ℕ} (B : Built net t low high) (G : Given t) (L : Limits t low high) where
+module _ {net : List ℕ} {limit : ℕ} {t : Ticket} {low high : ℕ → ℕ} (B : Built net t low high) (G : Held limit t) (L : Limits t low high) where
   pub feasible-meeting : (p : ℕ → ℕ) → Feasible (stored (t .events) (edges t) net) p → Meeting t low high p
   feasible-meeting p F =
       let n = t .events in
@@ -138,8 +138,8 @@ module _ {net : List ℕ} {t : Ticket} {low high : ℕ → ℕ} (B : Built net t
       (λ i l. B .order i l .flow)
       (λ j l. B .ruled j l .flow)
 
-  built-network : Network net (edges t) (2 * t .events + 1)
-  built-network =
+  built-network : limit ≤ 3800 → Network net (edges t) (2 * t .events + 1)
+  built-network room =
       let n = t .events in
       record {
         size = B .size;
@@ -163,11 +163,11 @@ module _ {net : List ℕ} {t : Ticket} {low high : ℕ → ℕ} (B : Built net t
         up = λ v hi lo. (B .boxes .up v lo hi .tail, B .boxes .up v lo hi .head);
       }
 
-  pub built-flowless : (pot : List ℕ) → length pot ≡ 81 → Meeting t low high (at pot) → Flowless net (edges t) (2 * t .events + 1) pot
-  built-flowless pot long M =
+  pub built-flowless : limit ≤ 3800 → (pot : List ℕ) → length pot ≡ 81 → Meeting t low high (at pot) → Flowless net (edges t) (2 * t .events + 1) pot
+  built-flowless room pot long M =
       let F = meeting-feasible (at pot) M in
       record {
-        network = built-network;
+        network = built-network room;
         potential = record { long = long; origin = F .origin; feasible = F .meets; tight = λ e l p. absurd (omega (arith, built-flows e l)) };
         flows = built-flows;
       }

@@ -20,7 +20,7 @@ use Rattle.network.specs.Stored.{at}
 use Rattle.ticket.specs.declared.Ticket.{Ticket}
 use Rattle.ticket.specs.Writing.{content, ruleIn}
 use Rattle.ticket.specs.Content.{in-events, in-rules}
-use Rattle.potentials.specs.Arrays.{noRule, Given, rule-in}
+use Rattle.potentials.specs.Arrays.{noRule, Held, Given, rule-in}
 use Rattle.potentials.specs.Nodes.{closeNode, close-most, potentialOf, potential-open, potential-node}
 use Rattle.demands.specs.Cost.{bound-fits}
 
@@ -60,7 +60,7 @@ given-small G j l = record { from-point = G .from-point j l; to-point = G .to-po
 pub given-bound : {t : Ticket} → Given t → (j : ℕ) → j < t .rules → toZ w32 (ofZ w32 (getD (t .bound) j (pos 0))) ≡ getD (t .bound) j (pos 0)
 given-bound {t} G j l = toZ-ofZ w32 (getD (t .bound) j (pos 0)) (bound-fits (getD (t .bound) j (pos 0)) (G .high j l) (G .deep j l))
 
-module _ {t : Ticket} (G : Given t) where
+module _ {limit : ℕ} {t : Ticket} (G : Held limit t) where
   -- a rule of the ticket, with its bound signed and biased
   pub rule-of : (P : Rule → Type 0) → All P (content t .rules) → (j : ℕ) → j < t .rules → P (ruleIn t j)
   rule-of P h j l = rw (rule-in t j l) at (All-below P noRule (content t .rules) h j (omega (arith, in-rules t)))

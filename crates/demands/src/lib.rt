@@ -35,7 +35,7 @@ pub fn cost(z: i32) -> u32
 }
 
 // The node of a point's close; for n = 0 the point itself.
-fn close_node(n: usize, point: usize) -> usize
+pub fn close_node(n: usize, point: usize) -> usize
     requires { ⌜ (n ≤ 40) × (point ≤ 40) ⌝ }
     ensures { λ r. ⌜ r ≡ closeNode n point ⌝ }
 {
@@ -78,7 +78,7 @@ pub fn obeyed(t: ticket::Ticket, n: usize, pot: &[u32; 81]) -> bool
 }
 
 // Store, for each event, the edge that keeps its open at most its close.
-fn order(net: &mut [u32], n: usize)
+pub fn order(net: &mut [u32], n: usize)
     requires { ⌜ (n ≤ 40) × (20 * n ≤ length (now net)) ⌝ }
     ensures { λ _. ⌜ Extends (now (net .entry)) (now (net .exit)) (4 * n) ⌝ }
     ensures { λ _. ⌜ Order (now (net .exit)) n n ⌝ }

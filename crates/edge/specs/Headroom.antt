@@ -76,7 +76,7 @@ module _ {net : List ℕ} {m nodes : ℕ} {pot : List ℕ} (N : Network net m no
 
   -- where the next edge of the list stands, and its slack
   pub rooms-edge : {x r : ℕ} → Rooms net m nodes pot x r → 0 < x
-      → (x - 1 < m) × (2 * nodes - 2 ≤ x - 1) × (x - 1 - (2 * nodes - 2) < 319) × (at pot (headOf net (x - 1)) + 1000000 ≤ costOf net (x - 1))
+      → (x - 1 < m) × (2 * nodes - 2 ≤ x - 1) × (x - 1 - (2 * nodes - 2) < 4000) × (at pot (headOf net (x - 1)) + 1000000 ≤ costOf net (x - 1))
   rooms-edge {x} R px =
       let hit = R .next .hit px in
       let lx : x - 1 < m = omega (arith, R .next .below) in

@@ -45,7 +45,7 @@ module _ {net : List ℕ} {m nodes : ℕ} {pot : List ℕ} {v : ℕ} (N : Networ
       }
 
   -- where the next edge of the list stands
-  pub below-edge : {x best : ℕ} → Below net m nodes pot v x best → 0 < x → (x - 1 < m) × (2 * nodes - 2 ≤ x - 1) × (x - 1 - (2 * nodes - 2) < 319)
+  pub below-edge : {x best : ℕ} → Below net m nodes pot v x best → 0 < x → (x - 1 < m) × (2 * nodes - 2 ≤ x - 1) × (x - 1 - (2 * nodes - 2) < 4000)
   below-edge B px = list-edge N (B .next) px
 
   pub below-more : {x y best : ℕ} → Below net m nodes pot v x best → 0 < x → Last net (2 * nodes - 2) 1 (endOf net 1 (x - 1)) (x - 1) y

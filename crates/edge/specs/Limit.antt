@@ -33,9 +33,9 @@ pub record EdgePlace (net : List ℕ) (e : ℕ) : Type 0 where
   pub first : 4 * e < length net
   pub second : 4 * e + 1 < length net
   pub fourth : 4 * e + 3 < length net
-  pub near : 4 * e < 2000
-  pub near-second : 4 * e + 1 < 2000
-  pub near-fourth : 4 * e + 3 < 2000
+  pub near : 4 * e < 16000
+  pub near-second : 4 * e + 1 < 16000
+  pub near-fourth : 4 * e + 3 < 16000
   pub tail : tailOf net e < 81
   pub head : headOf net e < 81
 
@@ -45,14 +45,14 @@ edge-place {net} {m} {nodes} N e le =
       first = omega (arith, N .size);
       second = omega (arith, N .size);
       fourth = omega (arith, N .size);
-      near = omega (arith, N .rules, N .few);
-      near-second = omega (arith, N .rules, N .few);
-      near-fourth = omega (arith, N .rules, N .few);
+      near = omega (arith, N .rules);
+      near-second = omega (arith, N .rules);
+      near-fourth = omega (arith, N .rules);
       tail = node-small N (N .tails e le);
       head = node-small N (N .heads e le);
     }
 
 -- where the next edge of a list stands
 pub list-edge : {net : List ℕ} {m nodes side w x : ℕ} → Network net m nodes → Unlisted net m (2 * nodes - 2) side w x → 0 < x
-    → (x - 1 < m) × (2 * nodes - 2 ≤ x - 1) × (x - 1 - (2 * nodes - 2) < 319)
+    → (x - 1 < m) × (2 * nodes - 2 ≤ x - 1) × (x - 1 - (2 * nodes - 2) < 4000)
 list-edge N U p = let hit = U .hit p in (omega (arith, U .below), omega (arith, hit .0), omega (arith, U .below, N .rules))

@@ -22,14 +22,7 @@ pub fn limit(net: &[u32], pot: &[u32; 81], e: usize) -> u32
 }
 
 // The highest that node v can be while the other nodes stay.
-pub fn height(
-    net: &[u32],
-    m: usize,
-    nodes: usize,
-    heads: &[u32; 400],
-    pot: &[u32; 81],
-    v: usize,
-) -> u32
+pub fn height(net: &[u32], m: usize, nodes: usize, heads: &[u32], pot: &[u32; 81], v: usize) -> u32
     requires { ⌜ Network (now net) m nodes ⌝ }
     requires { ⌜ Potential (now net) m (now pot) ⌝ }
     requires { ⌜ Index (now net) m (2 * nodes - 2) 1 (now heads) ⌝ }
@@ -64,14 +57,7 @@ fn need(net: &[u32], pot: &[u32; 81], e: usize) -> u32
 }
 
 // The lowest that node v can be while the other nodes stay.
-pub fn depth(
-    net: &[u32],
-    m: usize,
-    nodes: usize,
-    tails: &[u32; 400],
-    pot: &[u32; 81],
-    v: usize,
-) -> u32
+pub fn depth(net: &[u32], m: usize, nodes: usize, tails: &[u32], pot: &[u32; 81], v: usize) -> u32
     requires { ⌜ Network (now net) m nodes ⌝ }
     requires { ⌜ Potential (now net) m (now pot) ⌝ }
     requires { ⌜ Index (now net) m (2 * nodes - 2) 0 (now tails) ⌝ }
@@ -122,7 +108,7 @@ fn box_room(net: &[u32], m: usize, nodes: usize, pot: &[u32; 81]) -> u32
 }
 
 // How far all nodes but the origin can rise together, at most 1_000_000.
-pub fn headroom(net: &[u32], m: usize, nodes: usize, tails: &[u32; 400], pot: &[u32; 81]) -> u32
+pub fn headroom(net: &[u32], m: usize, nodes: usize, tails: &[u32], pot: &[u32; 81]) -> u32
     requires { ⌜ Network (now net) m nodes ⌝ }
     requires { ⌜ Potential (now net) m (now pot) ⌝ }
     requires { ⌜ Index (now net) m (2 * nodes - 2) 0 (now tails) ⌝ }

@@ -9,9 +9,9 @@ use Rattle.temporal.specs.Ticket.{Window, weight, total, origin, totalOf}
 use Rattle.network.specs.Stored.{at}
 use Rattle.network.specs.Sum.{sum, sum-cong, sum-first}
 use Rattle.ticket.specs.declared.Ticket.{Ticket}
-use Rattle.ticket.specs.Writing.{content}
-use Rattle.ticket.specs.Content.{in-events}
-use Rattle.potentials.specs.Arrays.{windowList, length-window-list, window-at, owner-in}
+use Rattle.ticket.specs.Writing.{firsts, content}
+use Rattle.ticket.specs.WritingLaws.{length-firsts, getD-firsts}
+use Rattle.potentials.specs.Arrays.{windowList, length-window-list, window-at}
 
 -- ---- the total width
 
@@ -25,13 +25,18 @@ total-sum (o ∷ os) (w ∷ ws) e =
     ap (λ x. weight o * (w .closes - w .opens) + x) (total-sum os ws (omega arith))
     ∙ sym (sum-first (length ws) (λ i. weight (getD (o ∷ os) i 0) * (getD (w ∷ ws) i origin .closes - getD (w ∷ ws) i origin .opens)))
 
--- of the windows of the ticket in arrays
+-- of the windows of n owners in an array
+total-first : (n : ℕ) (owners : List ℕ) (ws : List Window) → length ws ≡ n
+    → totalOf (firsts n (at owners)) ws ≡ sum n (λ i. weight (at owners i) * (getD ws i origin .closes - getD ws i origin .opens))
+total-first n owners ws e =
+    total-sum (firsts n (at owners)) ws (length-firsts n (at owners) ∙ sym e)
+    ∙ ap (λ k. sum k (λ i. weight (getD (firsts n (at owners)) i 0) * (getD ws i origin .closes - getD ws i origin .opens))) e
+    ∙ sum-cong _ _ n (λ i l. ap (λ o. weight o * (getD ws i origin .closes - getD ws i origin .opens)) (getD-firsts n (at owners) 0 i l))
+
+-- and of the ticket in arrays
 pub total-in : (t : Ticket) (ws : List Window) → length ws ≡ t .events
     → total (content t) ws ≡ sum (t .events) (λ i. weight (at (t .owners) i) * (getD ws i origin .closes - getD ws i origin .opens))
-total-in t ws e =
-    total-sum (content t .owners) ws (in-events t ∙ sym e)
-    ∙ ap (λ k. sum k (λ i. weight (getD (content t .owners) i 0) * (getD ws i origin .closes - getD ws i origin .opens))) e
-    ∙ sum-cong _ _ (t .events) (λ i l. ap (λ o. weight o * (getD ws i origin .closes - getD ws i origin .opens)) (owner-in t i l))
+total-in t ws e = total-first (t .events) (t .owners) ws e
 
 -- ---- event by event
 
@@ -45,7 +50,7 @@ pub sum-next : (i : ℕ) (f : ℕ → ℕ) → sum (i + 1) f ≡ sum i f + f i
 unfolding sum
 sum-next i f = let e : i + 1 ≡ suc i = omega arith in rw e refl
 
-pub total-parts : (t : Ticket) (opens closes : List ℕ) → total (content t) (windowList (t .events) opens closes) ≡ sum (t .events) (part (t .owners) opens closes)
-total-parts t opens closes =
-    total-in t (windowList (t .events) opens closes) (length-window-list (t .events) opens closes)
-    ∙ sum-cong _ _ (t .events) (λ i l. ap (λ (w : Window). weight (at (t .owners) i) * (w .closes - w .opens)) (window-at (t .events) opens closes i l))
+pub total-parts : (n : ℕ) (owners opens closes : List ℕ) → totalOf (firsts n (at owners)) (windowList n opens closes) ≡ sum n (part owners opens closes)
+total-parts n owners opens closes =
+    total-first n owners (windowList n opens closes) (length-window-list n opens closes)
+    ∙ sum-cong _ _ n (λ i l. ap (λ (w : Window). weight (at owners i) * (w .closes - w .opens)) (window-at n opens closes i l))

@@ -2,10 +2,11 @@
 // Rests on `ticket` for the struct, on `temporal` for fitness and weights, on `potentials` and `demands` for the rules over nodes, and on `network` for sums.
 
 ghost use mathlib.Core.Path.{_≡_};
-ghost use Prim.Native.Nat.{_*_, _-_, _≤_};
-ghost use Rattle.temporal.specs.Ticket.{weight, total, fits};
+ghost use Prim.Native.Nat.{ℕ, _*_, _-_, _<_, _≤_};
+ghost use Rattle.temporal.specs.Ticket.{weight, totalOf, total, fits};
 ghost use Rattle.temporal.specs.Run.{Valid};
-ghost use Rattle.ticket.specs.Writing.{content};
+ghost use Rattle.network.specs.Stored.{at};
+ghost use Rattle.ticket.specs.Writing.{firsts, content};
 ghost use Rattle.potentials.specs.Arrays.{windowList, Lie};
 
 // Whether windows within the horizon are fit.
@@ -27,18 +28,26 @@ fn part(owner: u8, opens: u32, closes: u32) -> u32
     temporal::weight(owner) * (closes - opens)
 }
 
+// The weighted total width of n windows of these owners, none longer than the longest session.
+pub fn total_of(n: usize, owners: &[u8; 40], opens: &[u32; 40], closes: &[u32; 40]) -> u32
+    requires { ⌜ (n ≤ 40) × ((i : ℕ) → i < n → (at (now opens) i ≤ at (now closes) i) × (at (now closes) i ≤ 1000000)) ⌝ }
+    ensures { λ r. ⌜ r ≡ totalOf (firsts n (at (now (owners .entry)))) (windowList n (now (opens .entry)) (now (closes .entry))) ⌝ }
+{
+    let mut sum = 0;
+    let mut i = 0;
+    while i < n {
+        sum += part(owners[i], opens[i], closes[i]);
+        i += 1;
+    }
+    sum
+}
+
 // The weighted total width of windows within the horizon.
 pub fn total(t: ticket::Ticket, opens: &[u32; 40], closes: &[u32; 40]) -> u32
     requires { ⌜ Valid (content t) ⌝ }
     requires { ⌜ Lie t (now opens) (now closes) ⌝ }
     ensures { λ r. ⌜ r ≡ total (content t) (windowList (t .events) (now (opens .entry)) (now (closes .entry))) ⌝ }
 {
-    let n = t.events;
-    let mut sum = 0;
-    let mut i = 0;
-    while i < n {
-        sum += part(t.owners[i], opens[i], closes[i]);
-        i += 1;
-    }
-    sum
+    let owners = t.owners;
+    total_of(t.events, &owners, opens, closes)
 }

@@ -9,15 +9,15 @@ ghost use Rattle.network.specs.Stored.{Beyond, flowOf, Network, Potential};
 ghost use Rattle.network.specs.Index.{Index};
 ghost use Rattle.network.specs.Grow.{Flowless};
 ghost use Rattle.flow.specs.Augment.{Ready, Augmented};
-ghost use Rattle.flow.specs.Solve.{Spans, Weights, Carries, FirstFlow, Sent, Lowered, Solved};
+ghost use Rattle.flow.specs.Solve.{Spans, Weights, Carries, FirstFlow, Sent, Lowered, Empty, Solved};
 
 // Push flow to root, at most want units of it, from a node with some supply, along edges with no slack. The result is how much; the supply falls by it.
 fn augment(
     net: &mut [u32],
     m: usize,
     nodes: usize,
-    tails: &[u32; 400],
-    heads: &[u32; 400],
+    tails: &[u32],
+    heads: &[u32],
     pot: &mut [u32; 81],
     stamp: &mut [usize; 81],
     via: &mut [usize; 81],
@@ -60,8 +60,8 @@ fn serve(
     net: &mut [u32],
     m: usize,
     n: usize,
-    tails: &[u32; 400],
-    heads: &[u32; 400],
+    tails: &[u32],
+    heads: &[u32],
     pot: &mut [u32; 81],
     weight: &[u32; 81],
     supply: &mut [u32; 81],
@@ -106,8 +106,8 @@ fn send(
     net: &mut [u32],
     m: usize,
     n: usize,
-    tails: &[u32; 400],
-    heads: &[u32; 400],
+    tails: &[u32],
+    heads: &[u32],
     pot: &mut [u32; 81],
     weight: &[u32; 81],
 )
@@ -135,14 +135,7 @@ fn send(
 }
 
 // Reach every node from the origin: the potential is then the least that the flow allows.
-fn lower(
-    net: &[u32],
-    m: usize,
-    nodes: usize,
-    tails: &[u32; 400],
-    heads: &[u32; 400],
-    pot: &mut [u32; 81],
-)
+fn lower(net: &[u32], m: usize, nodes: usize, tails: &[u32], heads: &[u32], pot: &mut [u32; 81])
     requires { ⌜ Network (now net) m nodes ⌝ }
     requires { ⌜ Potential (now net) m (now pot) ⌝ }
     requires { ⌜ Index (now net) m (2 * nodes - 2) 0 (now tails) ⌝ }
@@ -167,19 +160,26 @@ fn lower(
     );
 }
 
-// From a potential of the network with no flow to the widest potential that is least. Event i of 1 to n has the nodes i and n + i.
-pub fn solve(net: &mut [u32], m: usize, n: usize, pot: &mut [u32; 81], weight: &[u32; 81])
+// From a potential of the network with no flow to the widest potential that is least. Event i of 1 to n has the nodes i and n + i. The edges are listed in tails and heads.
+pub fn solve(
+    net: &mut [u32],
+    m: usize,
+    n: usize,
+    tails: &mut [u32],
+    heads: &mut [u32],
+    pot: &mut [u32; 81],
+    weight: &[u32; 81],
+)
     requires { ⌜ Flowless (now net) m (2 * n + 1) (now pot) ⌝ }
     requires { ⌜ Spans (now net) m n ⌝ }
     requires { ⌜ Weights n (now weight) ⌝ }
+    requires { ⌜ Empty m n (now tails) × Empty m n (now heads) ⌝ }
     ensures { λ _. ⌜ Solved (now (net .entry)) (now (net .exit)) m n (now (pot .entry)) (now (pot .exit)) (now (weight .entry)) ⌝ }
 {
     let nodes = 2 * n + 1;
     let base = 2 * nodes - 2;
-    let mut tails = [0u32; 400];
-    let mut heads = [0u32; 400];
-    network::list_edges(net, m, base, &mut tails, &mut heads);
-    warm::widen(net, m, n, &tails, &heads, pot);
-    send(net, m, n, &tails, &heads, pot, weight);
-    lower(net, m, nodes, &tails, &heads, pot);
+    network::list_edges(net, m, base, tails, heads);
+    warm::widen(net, m, n, tails, heads, pot);
+    send(net, m, n, tails, heads, pot, weight);
+    lower(net, m, nodes, tails, heads, pot);
 }

@@ -100,7 +100,7 @@ module _ {net net' : List ℕ} {m : ℕ} (x : Extends net net' m) where
 
 -- ---- one edge more
 
-pub flowless-more : {net : List ℕ} {m nodes : ℕ} {pot : List ℕ} {a b c : ℕ} → Flowless net m nodes pot → EdgeIs net m a b c → 4 * m + 3 < length net → m < 2 * nodes + 317
+pub flowless-more : {net : List ℕ} {m nodes : ℕ} {pot : List ℕ} {a b c : ℕ} → Flowless net m nodes pot → EdgeIs net m a b c → 4 * m + 3 < length net → m < 4000
     → a < nodes → b < nodes → c ≤ 2000000 → at pot b + 1000000 ≤ at pot a + c → Flowless net (m + 1) nodes pot
 flowless-more {net} {m} {nodes} {pot} {a} {b} {c} F E size room la lb lc d =
     record {
@@ -132,12 +132,12 @@ flowless-more {net} {m} {nodes} {pot} {a} {b} {c} F E size room la lb lc d =
 
 -- ---- the boxes alone
 
--- with lists of zeros, and a potential within the boxes
+-- with lists of no edges, and a potential within the boxes
 module _ {net : List ℕ} {last : ℕ} {low high : ℕ → ℕ} (B : Boxes net (last + 1) low high) (pot tails heads : List ℕ) (few : last ≤ 80) (size : 8 * last ≤ length net)
     (highs : (v : ℕ) → 0 < v → v < last + 1 → high v ≤ 1000000) (long : length pot ≡ 81) (origin : at pot 0 ≡ 0)
     (within : (v : ℕ) → 0 < v → v < last + 1 → (low v ≤ at pot v) × (at pot v ≤ high v))
-    (long-tails : length tails ≡ 400) (zero-tails : (k : ℕ) → k < 400 → at tails k ≡ 0)
-    (long-heads : length heads ≡ 400) (zero-heads : (k : ℕ) → k < 400 → at heads k ≡ 0) where
+    (long-tails : 81 ≤ length tails) (zero-tails : (k : ℕ) → k < 81 → at tails k ≡ 0)
+    (long-heads : 81 ≤ length heads) (zero-heads : (k : ℕ) → k < 81 → at heads k ≡ 0) where
   flows : (e : ℕ) → e < 2 * last → flowOf net e ≡ 0
   flows = by-boxes (λ e. flowOf net e ≡ 0) last (λ v lo hi. (B .down v lo hi .flow, B .up v lo hi .flow))
 

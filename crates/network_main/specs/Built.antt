@@ -5,8 +5,9 @@ use mathlib.Core.Bool.{true}
 use mathlib.Core.List.{List}
 use native.Mathlib.Omega.{arith}
 use borrow.Author.Count.{below-none, below-more}
-use lib.ListN.{length, set, replicate, length-set, getD-replicate}
+use lib.ListN.{length, set, replicate, length-set, length-replicate}
 use lib.Seq.{getD-set-same, getD-set-other}
+use Rattle.network.specs.Lists.{zeros-at}
 use Rattle.network.specs.Stored.{at}
 use Rattle.network.specs.Edges.{EdgeIs, extends-edge, Boxes}
 use Rattle.network.specs.Grow.{Flowless, Growing, boxes-growing}
@@ -48,7 +49,7 @@ built-start {net} {low} {high} {n} few size B D =
       growing =
           rw edges at
           (boxes-growing B low (replicate 400 0) (replicate 400 0) (omega arith) (omega arith) (λ v p l. D .fits v l p .1) (D .long-low) (D .origin) (λ v p l. (omega arith, D .fits v l p .0))
-          refl (λ i l. getD-replicate 400 i 0 0 l) refl (λ i l. getD-replicate 400 i 0 0 l));
+          (omega (arith, length-replicate {A = ℕ} 400 0)) (λ i l. zeros-at 400 i) (omega (arith, length-replicate {A = ℕ} 400 0)) (λ i l. zeros-at 400 i));
       size = size;
       order = below-none _;
     }
@@ -75,12 +76,14 @@ pub record Ends (n k a b c : ℕ) : Type 0 where
 
 -- what `admit` asks of it
 pub ends-fit : {net pot tails heads : List ℕ} {n k a b c : ℕ} (m : ℕ) → (n ≤ 40) × (m ≤ 256) → k < n + m → Built net n k pot tails heads → Ends n k a b c
-    → Growing net (4 * n + k) (2 * n + 1) pot tails heads × Admissible net (4 * n + k) (2 * n + 1) a b c
-ends-fit m few below B E = (
+    → 81 + (n + m) ≤ length tails → 81 + (n + m) ≤ length heads → Growing net (4 * n + k) (2 * n + 1) pot tails heads × Admissible net (4 * n + k) (2 * n + 1) tails heads a b c
+ends-fit m few below B E room-tails room-heads = (
   B .growing,
   record {
     size = omega (arith, few .0, few .1, B .size);
     room = omega (arith, few .0, few .1);
+    by-tail = omega arith;
+    by-head = omega arith;
     tail = E .tail;
     head = E .head;
     cost = E .cost;

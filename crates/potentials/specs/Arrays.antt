@@ -15,7 +15,7 @@ use Rattle.temporal.specs.Ticket.{Rule, events, Window, origin}
 use Rattle.temporal.specs.Ends.{Lies}
 use Rattle.temporal.specs.Run.{Valid, ValidRule}
 use Rattle.network.specs.Stored.{at}
-use Rattle.ticket.specs.Writing.{firsts, ownerIn, ruleIn, content}
+use Rattle.ticket.specs.Writing.{firsts, ruleIn, content}
 use Rattle.ticket.specs.WritingLaws.{length-firsts, firsts-tab, getD-firsts}
 use Rattle.ticket.specs.Content.{in-events, in-rules}
 use Rattle.ticket.specs.declared.Ticket.{Ticket}
@@ -41,9 +41,6 @@ abbrev pub rule : temporal.Ticket → ℕ → Rule
 rule k j = getD (k .rules) j noRule
 
 module _ (t : Ticket) where
-  pub owner-in : (i : ℕ) → i < t .events → getD (content t .owners) i 0 ≡ at (t .owners) i
-  owner-in i l = getD-firsts (t .events) (ownerIn t) 0 i l
-
   pub rule-in : (j : ℕ) → j < t .rules → rule (content t) j ≡ ruleIn t j
   rule-in j l = getD-firsts (t .rules) (ruleIn t) noRule j l
 
@@ -65,14 +62,19 @@ flag-at n flags i l = getD-firsts n _ false i l
 
 -- ---- what reading grants, by the arrays
 
-pub record Given (t : Ticket) : Type 0 where
+-- a network that has at most `limit` rules
+pub record Held (limit : ℕ) (t : Ticket) : Type 0 where
   pub top : t .horizon ≤ 1000000
   pub few : t .events ≤ 40
-  pub most : t .rules ≤ 256
+  pub most : t .rules ≤ limit
   pub from-point : (j : ℕ) → j < t .rules → at (t .from) j ≤ t .events
   pub to-point : (j : ℕ) → j < t .rules → at (t .to) j ≤ t .events
   pub deep : (j : ℕ) → j < t .rules → below (getD (t .bound) j (pos 0)) ≤ 1000000
   pub high : (j : ℕ) → j < t .rules → above (getD (t .bound) j (pos 0)) ≤ 1000000
+
+-- a ticket's
+abbrev pub Given : Ticket → Type 0
+Given t = Held 256 t
 
 pub valid-given : (t : Ticket) → Valid (content t) → Given t
 valid-given t ok = record {

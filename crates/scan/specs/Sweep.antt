@@ -176,18 +176,18 @@ pub record Sweep (net : List ℕ) (m nodes : ℕ) (pot stamp dist order : List �
 -- the next edge is an edge, and what stands for it in the list is small
 pub record Follows (net : List ℕ) (m base side w x : ℕ) (list : List ℕ) : Type 0 where
   pub edge : x - 1 < m
-  pub place : (base ≤ x - 1) × (81 + (x - 1 - base) < 400)
+  pub place : (base ≤ x - 1) × (81 + (x - 1 - base) < length list)
   pub there : endOf net side (x - 1) ≡ w
   pub next : Last net base side (endOf net side (x - 1)) (x - 1) (at list (81 + (x - 1 - base)))
-  pub small : at list (81 + (x - 1 - base)) < 500
+  pub small : at list (81 + (x - 1 - base)) < 4000
   pub less : at list (81 + (x - 1 - base)) < x
 
 module _ {net : List ℕ} {m nodes : ℕ} {pot stamp via dist order key : List ℕ} {root t s d w side : ℕ} {list : List ℕ}
     (S : Search net m nodes pot stamp via dist order key root t s d) (sc : Scans nodes stamp s w) (I : Index net m (2 * nodes - 2) side list) where
-  pub sweep-sizes : (0 < nodes) × (nodes ≤ 81) × (w < 400) × (at list w < 500)
+  pub sweep-sizes : (0 < nodes) × (nodes ≤ 81) × (w < length list) × (at list w ≤ 4000)
   sweep-sizes =
       let N = S .network in
-      (N .some, N .few, omega (arith, N .few, sc .inside), omega (arith, I .first w (omega (arith, N .few, sc .inside)) .below, N .rules, N .few))
+      (N .some, N .few, omega (arith, N .few, sc .inside, I .long), omega (arith, I .first w (omega (arith, N .few, sc .inside)) .below, N .rules))
 
   pub sweep-none : Sweep net m nodes pot stamp dist order t stamp via dist order key root t s d w side (at list w)
   sweep-none =
@@ -208,10 +208,10 @@ module _ {net : List ℕ} {m nodes : ℕ} {pot stamp dist order : List ℕ} {t :
       let n = I .next (x - 1) (omega arith) e in
       record {
         edge = e;
-        place = omega (arith, N .rules, N .some);
+        place = omega (arith, I .long);
         there = h .1;
         next = n;
-        small = omega (arith, n .below, N .rules, N .few);
+        small = omega (arith, n .below, N .rules);
         less = omega (arith, n .below);
       }
 

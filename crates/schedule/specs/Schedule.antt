@@ -87,7 +87,7 @@ tried-start {net} {t} {pot} G size L B =
       boxes = C;
       ruled = below-none _;
       growing = rw e (boxes-growing C pot (replicate 400 0) (replicate 400 0) (omega (arith, G .few)) size (λ v lo hi. G .top) (L .long) (L .origin)
-          (λ v lo hi. (omega arith, L .most v (omega arith))) (length-replicate {A = ℕ} 400 0) (λ k l. zeros-at 400 k) (length-replicate {A = ℕ} 400 0) (λ k l. zeros-at 400 k));
+          (λ v lo hi. (omega arith, L .most v (omega arith))) (omega (arith, length-replicate {A = ℕ} 400 0)) (λ k l. zeros-at 400 k) (omega (arith, length-replicate {A = ℕ} 400 0)) (λ k l. zeros-at 400 k));
     }
 
 -- a rule more, or none with it

@@ -79,8 +79,8 @@ pub fn admit_rule(
     net: &mut [u32],
     n: usize,
     j: usize,
-    tails: &mut [u32; 400],
-    heads: &mut [u32; 400],
+    tails: &mut [u32],
+    heads: &mut [u32],
     times: &mut [u32; 81],
     from: u8,
     to: u8,
@@ -89,6 +89,7 @@ pub fn admit_rule(
     requires { ⌜ Growing (now net) (2 * n + j) (n + 1) (now times) (now tails) (now heads) ⌝ }
     requires { ⌜ SmallRule n from to bound ⌝ }
     requires { ⌜ (n ≤ 40) × (j < 256) × (4 * (2 * n + j) + 3 < length (now net)) ⌝ }
+    requires { ⌜ (81 + j < length (now tails)) × (81 + j < length (now heads)) ⌝ }
     ensures { λ r. ⌜ Admits (now (net .entry)) (now (net .exit)) (2 * n + j) (n + 1) (now (times .exit)) (now (tails .exit)) (now (heads .exit)) from to (biased bound) r ⌝ }
 {
     admit::admit(
@@ -108,13 +109,14 @@ pub fn admit_rule(
 fn admit_rules(
     net: &mut [u32],
     t: ticket::Ticket,
-    tails: &mut [u32; 400],
-    heads: &mut [u32; 400],
+    tails: &mut [u32],
+    heads: &mut [u32],
     times: &mut [u32; 81],
 ) -> bool
     requires { ⌜ Given t ⌝ }
     requires { ⌜ 8 * t .events + 4 * t .rules ≤ length (now net) ⌝ }
     requires { ⌜ Tried (now net) (length (now net)) t (now times) (now tails) (now heads) 0 ⌝ }
+    requires { ⌜ (81 + t .rules ≤ length (now tails)) × (81 + t .rules ≤ length (now heads)) ⌝ }
     ensures { λ r. ⌜ Decided t (now (times .exit)) r ⌝ }
     ensures { λ _. ⌜ length (now (net .exit)) ≡ length (now (net .entry)) ⌝ }
 {

@@ -198,7 +198,7 @@ module _ {t : Ticket} {size : ℕ} {net pot tails heads : List ℕ} {j : ℕ} {f
         (G .few, omega (arith, selecting-few), omega (arith, selecting-few, S .tried .long)),
       )
 
-  -- the select takes a step
+  -- the selection takes a step
   stepped : select (content t) (step (content t) (S .selection) (j + 1) this) (suc (j + 1)) (drop (suc j) (content t .rules)) ≡ selected (content t)
   unfolding select
   stepped = (rw (drop-cons (content t .rules) j noRule (omega (arith, in-rules t)), rule-in t j lj) at (S .rest))

@@ -24,12 +24,13 @@ pub struct Mended {
 fn select(
     net: &mut [u32],
     t: Ticket,
-    tails: &mut [u32; 400],
-    heads: &mut [u32; 400],
+    tails: &mut [u32],
+    heads: &mut [u32],
     times: &mut [u32; 81],
 ) -> Mended
     requires { ⌜ Valid (content t) × (8 * t .events + 4 * t .rules ≤ length (now net)) ⌝ }
     requires { ⌜ Tried (now net) (length (now net)) (keptStruct t []) (now times) (now tails) (now heads) 0 ⌝ }
+    requires { ⌜ (81 + t .rules ≤ length (now tails)) × (81 + t .rules ≤ length (now heads)) ⌝ }
     ensures { λ r. ⌜ content (r .ticket) ≡ mended (content t) ⌝ }
     ensures { λ r. ⌜ firsts (r .dropped) (at (r .numbers)) ≡ dropped (content t) ⌝ }
 {

@@ -11,7 +11,7 @@ ghost use Rattle.warm.specs.Center.{Shifted};
 ghost use Rattle.warm.specs.Highest.{Highest};
 
 // Raise each hi node as far as it can: no flow runs yet.
-fn rise(net: &[u32], m: usize, n: usize, heads: &[u32; 400], pot: &mut [u32; 81])
+fn rise(net: &[u32], m: usize, n: usize, heads: &[u32], pot: &mut [u32; 81])
     requires { ⌜ Network (now net) m (2 * n + 1) ⌝ }
     requires { ⌜ Potential (now net) m (now pot) ⌝ }
     requires { ⌜ Index (now net) m (2 * (2 * n + 1) - 2) 1 (now heads) ⌝ }
@@ -30,7 +30,7 @@ fn rise(net: &[u32], m: usize, n: usize, heads: &[u32; 400], pot: &mut [u32; 81]
 }
 
 // Lower each lo node as far as it can: no flow runs yet.
-fn sink(net: &[u32], m: usize, n: usize, tails: &[u32; 400], pot: &mut [u32; 81])
+fn sink(net: &[u32], m: usize, n: usize, tails: &[u32], pot: &mut [u32; 81])
     requires { ⌜ Network (now net) m (2 * n + 1) ⌝ }
     requires { ⌜ Potential (now net) m (now pot) ⌝ }
     requires { ⌜ Index (now net) m (2 * (2 * n + 1) - 2) 0 (now tails) ⌝ }
@@ -75,7 +75,7 @@ fn highest(pot: &[u32; 81], n: usize) -> u32
 }
 
 // Where all lo nodes stand low, move everything up by half the headroom, then lower the lo nodes again: so windows grow both ways.
-fn center(net: &[u32], m: usize, n: usize, tails: &[u32; 400], pot: &mut [u32; 81])
+fn center(net: &[u32], m: usize, n: usize, tails: &[u32], pot: &mut [u32; 81])
     requires { ⌜ Network (now net) m (2 * n + 1) ⌝ }
     requires { ⌜ Potential (now net) m (now pot) ⌝ }
     requires { ⌜ Index (now net) m (2 * (2 * n + 1) - 2) 0 (now tails) ⌝ }
@@ -96,14 +96,7 @@ fn center(net: &[u32], m: usize, n: usize, tails: &[u32; 400], pot: &mut [u32; 8
 }
 
 // A wider potential: everything moves to the middle of its room, then the hi nodes rise.
-pub fn widen(
-    net: &[u32],
-    m: usize,
-    n: usize,
-    tails: &[u32; 400],
-    heads: &[u32; 400],
-    pot: &mut [u32; 81],
-)
+pub fn widen(net: &[u32], m: usize, n: usize, tails: &[u32], heads: &[u32], pot: &mut [u32; 81])
     requires { ⌜ Network (now net) m (2 * n + 1) ⌝ }
     requires { ⌜ Potential (now net) m (now pot) ⌝ }
     requires { ⌜ Index (now net) m (2 * (2 * n + 1) - 2) 0 (now tails) ⌝ }

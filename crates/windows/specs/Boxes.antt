@@ -3,7 +3,7 @@
 use mathlib.Core.Path.{_≡_, _∙_}
 use mathlib.Core.Bool.{Bool, true, false, cond}
 use mathlib.Core.List.{List}
-use lib.ListN.{length}
+use lib.ListN.{length, replicate, getD-replicate}
 use Prim.Native.Nat.{ℕ, zero, suc, _+_, _*_, _≤_, _<_}
 use native.Mathlib.Omega.{arith}
 use Rattle.temporal.specs.Lists.{All, below-All}
@@ -13,10 +13,11 @@ use Rattle.temporal.specs.Ends.{Ends, Lies}
 use Rattle.temporal.specs.Best.{Chosen, chosen-under}
 use Rattle.temporal.specs.Plan.{flagged}
 use Rattle.temporal.specs.FitSets.{KeepsAt, Grows}
+use Rattle.network.specs.Stored.{at}
 use Rattle.ticket.specs.declared.Ticket.{Ticket}
 use Rattle.ticket.specs.Writing.{content}
 use Rattle.ticket.specs.Content.{in-events}
-use Rattle.potentials.specs.Arrays.{Given}
+use Rattle.potentials.specs.Arrays.{Held, Given}
 use Rattle.potentials.specs.Nodes.{by-nodes, potentialOf, potential-open, potential-close}
 use Rattle.demands.specs.Rules.{ends-obeyed, obeyed-ends}
 use Rattle.demands.specs.Network.{Meeting}
@@ -26,7 +27,7 @@ pub record Allowed (t : Ticket) (low high : ℕ → ℕ) (ws : List Window) : Ty
   pub count : length ws ≡ t .events
   pub meeting : Meeting t low high (potentialOf (t .events) ws)
 
-module _ {t : Ticket} (G : Given t) (low high : ℕ → ℕ) (ws : List Window) where
+module _ {limit : ℕ} {t : Ticket} (G : Held limit t) (low high : ℕ → ℕ) (ws : List Window) where
   ends-allowed : Ends (content t) ws
       → ((v : ℕ) → 0 < v → v < 2 * t .events + 1 → (low v ≤ potentialOf (t .events) ws v) × (potentialOf (t .events) ws v ≤ high v))
       → Allowed t low high ws
@@ -61,8 +62,14 @@ pub record Free (t : Ticket) (low high : ℕ → ℕ) : Type 0 where
   pub lowest : (v : ℕ) → 0 < v → v < 2 * t .events + 1 → low v ≡ 0
   pub highest : (v : ℕ) → 0 < v → v < 2 * t .events + 1 → high v ≡ t .horizon
 
-module _ {t : Ticket} (G : Given t) {low high : ℕ → ℕ} (F : Free t low high) where
-  free-allowed : (ws : List Window) → Ends (content t) ws → Allowed t low high ws
+pub free-boxes : {limit : ℕ} {t : Ticket} → Held limit t → Free t (at (replicate 81 0)) (at (replicate 81 (t .horizon)))
+free-boxes {t = t} G = record {
+  lowest = λ v lo hi. getD-replicate {A = ℕ} 81 v 0 0 (omega (arith, G .few));
+  highest = λ v lo hi. getD-replicate {A = ℕ} 81 v (t .horizon) 0 (omega (arith, G .few));
+}
+
+module _ {limit : ℕ} {t : Ticket} (G : Held limit t) {low high : ℕ → ℕ} (F : Free t low high) where
+  pub free-allowed : (ws : List Window) → Ends (content t) ws → Allowed t low high ws
   free-allowed ws E =
       let n = t .events in
       ends-allowed G low high ws E (by-nodes (λ v. (low v ≤ potentialOf n ws v) × (potentialOf n ws v ≤ high v)) n

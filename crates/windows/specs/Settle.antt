@@ -31,7 +31,7 @@ use Rattle.demands.specs.Network.{Meeting, meeting-same, Limits}
 use Rattle.schedule.specs.Times.{timesOf, schedule-timed, timed-schedule}
 use Rattle.schedule.specs.Schedule.{Decided}
 use Rattle.windows.specs.Promises.{stateIn}
-use Rattle.windows.specs.Boxes.{Allowed, Free, free-top, free-chosen, CommitBoxes, cond-most, grows-allowed, boxes-chosen, allowed-lies}
+use Rattle.windows.specs.Boxes.{Allowed, free-boxes, free-top, free-chosen, CommitBoxes, cond-most, grows-allowed, boxes-chosen, allowed-lies}
 
 -- boxes and a potential within them that keeps the rules
 pub record StartsWithin (t : Ticket) (low high : ℕ → ℕ) (pot : List ℕ) : Type 0 where
@@ -42,9 +42,6 @@ pub record StartsWithin (t : Ticket) (low high : ℕ → ℕ) (pot : List ℕ) :
 -- ---- planning, from the times of a schedule
 
 module _ {t : Ticket} (G : Given t) where
-  free : Free t (at (replicate 81 0)) (at (replicate 81 (t .horizon)))
-  free = record { lowest = λ v lo hi. getD-replicate {A = ℕ} 81 v 0 0 (omega (arith, G .few)); highest = λ v lo hi. getD-replicate {A = ℕ} 81 v (t .horizon) 0 (omega (arith, G .few)) }
-
   -- windows that open and close at once
   pub plan-started : {times pot : List ℕ} {r : Bool} → Decided t times r → r ≡ true → Pairs (t .events) (λ i. at times (suc i)) (λ i. at times (suc i)) pot (t .events)
       → StartsWithin t (at (replicate 81 0)) (at (replicate 81 (t .horizon))) pot
@@ -57,8 +54,8 @@ module _ {t : Ticket} (G : Given t) where
         long = P .nodes .long;
         meeting = record {
           origin = P .nodes .origin;
-          above-low = λ v lo hi. omega (arith, free .lowest v lo hi);
-          below-high = λ v lo hi. rw (free .highest v lo hi) (by-nodes (λ v. at pot v ≤ t .horizon) n
+          above-low = λ v lo hi. omega (arith, free-boxes G .lowest v lo hi);
+          below-high = λ v lo hi. rw (free-boxes G .highest v lo hi) (by-nodes (λ v. at pot v ≤ t .horizon) n
               (λ i l. omega (arith, P .first i l, T .inside (suc i) l))
               (λ i l. omega (arith, P .second i l, T .inside (suc i) l)) v lo hi);
           ordered = λ i l. omega (arith, P .first i l, P .second i l);
@@ -98,10 +95,10 @@ module _ {t : Ticket} (G : Given t) where
     plan-answer {times} D e =
         rw no-flags
         (plan-is (content t) (timesOf (t .events) (at times)) (windowList (t .events) opens closes)
-        (schedule-test (content t) (timesOf (t .events) (at times)) (timed-schedule G (at times) (D .found e))) (free-chosen G free (windowList (t .events) opens closes) C))
+        (schedule-test (content t) (timesOf (t .events) (at times)) (timed-schedule G (at times) (D .found e))) (free-chosen G (free-boxes G) (windowList (t .events) opens closes) C))
 
     pub plan-lies : Lie t opens closes
-    plan-lies = allowed-lies G (at (replicate 81 0)) (at (replicate 81 (t .horizon))) (windowList (t .events) opens closes) (free-top G free) (C .allowed)
+    plan-lies = allowed-lies G (at (replicate 81 0)) (at (replicate 81 (t .horizon))) (windowList (t .events) opens closes) (free-top G (free-boxes G)) (C .allowed)
 
   pub plan-none : {times : List ℕ} {r : Bool} → Decided t times r → r ≡ false → plan (content t) ≡ refused 9
   plan-none D e = plan-refused (content t) (λ ts s. D .none e (temporal.time ts) (schedule-timed G ts s))

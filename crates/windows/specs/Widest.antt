@@ -18,7 +18,7 @@ use Rattle.flow.specs.Solve.{Spans}
 use Rattle.network.specs.Sum.{sum-cong}
 use Rattle.ticket.specs.declared.Ticket.{Ticket}
 use Rattle.ticket.specs.Writing.{content}
-use Rattle.potentials.specs.Arrays.{Given}
+use Rattle.potentials.specs.Arrays.{Held}
 use Rattle.potentials.specs.Nodes.{closeNode, close-most, windowsOf, length-windows, potentialOf, potential-open, potential-close, potential-node, potential-windows}
 use Rattle.demands.specs.Network.{Built, Limits, Meeting, meeting-same, edges, feasible-meeting, meeting-feasible}
 use Rattle.fitness.specs.Total.{total-in}
@@ -51,7 +51,7 @@ module _ (net : List ℕ) (m : ℕ) (t : Ticket) (w : ℕ → ℕ) (owned : (i :
 
 -- ---- the best potential gives the best windows
 
-module _ {net : List ℕ} {t : Ticket} {low high : ℕ → ℕ} (B : Built net t low high) (G : Given t) (L : Limits t low high) where
+module _ {net : List ℕ} {limit : ℕ} {t : Ticket} {low high : ℕ → ℕ} (B : Built net t low high) (G : Held limit t) (L : Limits t low high) where
   -- what `solve` asks
   pub built-spans : Spans net (edges t) (t .events)
   built-spans =

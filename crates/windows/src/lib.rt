@@ -23,7 +23,7 @@ ghost use Rattle.schedule.specs.Schedule.{Decided};
 ghost use Rattle.windows.specs.Settle.{StartsWithin, Asked};
 
 // The weights of the events, each that of its owner.
-fn weigh(n: usize, owners: &[u8; 40], weight: &mut [u32; 81])
+pub fn weigh(n: usize, owners: &[u8; 40], weight: &mut [u32; 81])
     requires { ⌜ n ≤ 40 ⌝ }
     requires { ⌜ Weighs (now owners) (now weight) 0 ⌝ }
     ensures { λ _. ⌜ Weighs (now (owners .entry)) (now (weight .exit)) n ⌝ }
@@ -37,7 +37,7 @@ fn weigh(n: usize, owners: &[u8; 40], weight: &mut [u32; 81])
 
 // From a potential that keeps the network to the widest one that is least, each event with the weight of its owner.
 fn widest(net: &mut [u32], n: usize, m: usize, owners: &[u8; 40], pot: &mut [u32; 81])
-    requires { ⌜ n ≤ 40 ⌝ }
+    requires { ⌜ (n ≤ 40) × (m ≤ 4 * n + 319) ⌝ }
     requires { ⌜ Flowless (now net) m (2 * n + 1) (now pot) ⌝ }
     requires { ⌜ Spans (now net) m n ⌝ }
     ensures { λ _. ⌜ Widened (now (net .entry)) m n (now (owners .entry)) (now (pot .exit)) ⌝ }
@@ -45,7 +45,9 @@ fn widest(net: &mut [u32], n: usize, m: usize, owners: &[u8; 40], pot: &mut [u32
 {
     let mut weight = [0u32; 81];
     weigh(n, owners, &mut weight);
-    flow::solve(net, m, n, pot, &weight);
+    let mut tails = [0u32; 400];
+    let mut heads = [0u32; 400];
+    flow::solve(net, m, n, &mut tails, &mut heads, pot, &weight);
 }
 
 // From a potential within the boxes to the best windows within them.

@@ -11,7 +11,7 @@ use Rattle.admit.proofs.admit.Tie as tie
 
 put-requires : tie.Need-put-requires
 put-requires c κs =
-    let p = c .before .before .pre in
+    let p = c .before .before .before .before .pre in
     omega (arith, p .1 .size, p .1 .tail, p .1 .head, p .0 .flowless .network .few)
 
 approach-requires : tie.Need-approach-requires
@@ -52,14 +52,14 @@ link-requires c κs =
     let entry : tie.Start = search needs in
     let p = entry .pre in
     let N = p .0 .flowless .network in
-    (p .0 .by-tail .long, omega (arith, p .1 .room), omega (arith, p .1 .tail, N .few), omega (arith, p .1 .room, N .few))
+    (p .1 .by-tail, omega (arith, p .1 .by-tail, p .1 .tail, N .few), p .1 .room)
 
 link-requires-2 : tie.Need-link-requires-2
 link-requires-2 c κs =
     let entry : tie.Start = search needs in
     let p = entry .pre in
     let N = p .0 .flowless .network in
-    (p .0 .by-head .long, omega (arith, p .1 .room), omega (arith, p .1 .head, N .few), omega (arith, p .1 .room, N .few))
+    (p .1 .by-head, omega (arith, p .1 .by-head, p .1 .head, N .few), p .1 .room)
 
 returns-2 : tie.Need-returns-2
 returns-2 c =
@@ -68,7 +68,7 @@ returns-2 c =
     let after-put : tie.After-put = search needs in
     let entry : tie.Start = search needs in
     let a = after-approach .approach .ensures in
-    admits-yes (after-put .put .ensures) a _ (entry .pre .1) (met .if1 .left) refl (c .before .before .link .ensures) (c .link2 .ensures)
+    admits-yes (after-put .put .ensures) a _ (entry .pre .1) (met .if1 .left) refl (c .before .before .before .before .before .before .link .ensures) (c .before .before .link2 .ensures)
 
 pub admit-spec : {M : Type 1} → statement M
 admit-spec =
@@ -83,6 +83,8 @@ admit-spec =
     (λ c. search needs)
     add-if1-2
     (λ c. search needs)
+    (λ c. search needs)
+    (λ c. search needs)
     returns
     (λ c. search needs)
     (λ c. search needs)
@@ -90,5 +92,7 @@ admit-spec =
     add-place-2
     link-requires
     link-requires-2
+    (λ c. search needs)
+    (λ c. search needs)
     (λ c. search needs)
     returns-2)

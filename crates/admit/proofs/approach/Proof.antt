@@ -9,13 +9,13 @@ use Rattle.admit.proofs.approach.Tie as tie
 
 add-if1 : tie.Need-add-if1
 add-if1 c =
-    let s = c .before .before in
+    let s = c .before .before .before .before in
     let F = s .pre .0 .flowless in
     omega (arith, pot-bound _ _ _ _ (F .network) (F .potential) (s .args .b) (s .pre .1 .1))
 
 add-if1-2 : tie.Need-add-if1-2
 add-if1-2 c =
-    let s = c .before .before .before in
+    let s = c .before .before .before .before .before in
     let F = s .pre .0 .flowless in
     omega (arith, pot-bound _ _ _ _ (F .network) (F .potential) (s .args .a) (s .pre .1 .0), s .pre .1 .2)
 

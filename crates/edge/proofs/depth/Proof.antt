@@ -17,8 +17,8 @@ abbrev μ-loop : tie.MeasureT-loop
 μ-loop net m nodes tails pot v base stands best₀ x₀ best x = x
 
 -- places of the code, each from one after it
-abbrev entry : tie.After-x Inv-loop μ-loop → tie.Start Inv-loop μ-loop
-entry c = c .before .before .before .before
+abbrev entry : tie.After-shared-slice-known3 Inv-loop μ-loop → tie.Start Inv-loop μ-loop
+entry c = c .before .before .before .before .before
 
 abbrev start : tie.At-loop Inv-loop μ-loop → tie.Start Inv-loop μ-loop
 start c = entry (c .before)
@@ -30,41 +30,43 @@ passing c = c .before .before .before
 next : (c : tie.In-loop Inv-loop μ-loop)
     → let x = c .before .loop .x in
     let base = 2 * start (c .before) .args .nodes - 2 in
-    (x - 1 < start (c .before) .args .m) × (base ≤ x - 1) × (x - 1 - base < 319)
+    (x - 1 < start (c .before) .args .m) × (base ≤ x - 1) × (x - 1 - base < 4000)
 next c =
     let p = start (c .before) .pre in
     list-edge (p .0) (c .before .loop .inv .next) (c .loop-test .taken)
 
 mul-base : tie.Need-mul-base Inv-loop μ-loop
-mul-base c = omega (arith, c .before .pre .0 .few)
+mul-base c = omega (arith, c .before .before .pre .0 .few)
 
 sub-base : tie.Need-sub-base Inv-loop μ-loop
-sub-base c = omega (arith, c .before .pre .0 .some)
+sub-base c = omega (arith, c .before .before .pre .0 .some)
 
 mul-stands : tie.Need-mul-stands Inv-loop μ-loop
-mul-stands c = scaled-fits _ 81 4 (node-small (c .before .pre .0) (c .before .pre .1 .1 .1 .1)) (lit< tt)
+mul-stands c = scaled-fits _ 81 4 (node-small (c .before .before .pre .0) (c .before .before .pre .1 .1 .1 .1)) (lit< tt)
 
 element-copy-out-stands : tie.Need-element-copy-out-stands Inv-loop μ-loop
-element-copy-out-stands c = node-small (c .before .pre .0) (c .before .pre .1 .1 .1 .1)
+element-copy-out-stands c = node-small (c .before .before .pre .0) (c .before .before .pre .1 .1 .1 .1)
 
 mul-need : tie.Need-mul-need Inv-loop μ-loop
-mul-need c = omega (arith, c .before .before .pre .0 .few)
+mul-need c = omega (arith, c .before .before .before .pre .0 .few)
 
 sub-need : tie.Need-sub-need Inv-loop μ-loop
 sub-need c = omega arith
 
 need-requires : tie.Need-need-requires Inv-loop μ-loop
 need-requires c κs =
-    let p = c .before .before .pre in
-    edge-fits (p .0) (p .1 .0) _ (omega (arith, p .0 .links (c .before .before .args .v) (p .1 .1 .1 .1) (p .1 .1 .1 .0)))
+    let p = c .before .before .before .pre in
+    edge-fits (p .0) (p .1 .0) _ (omega (arith, p .0 .links (c .before .before .before .args .v) (p .1 .1 .1 .1) (p .1 .1 .1 .0)))
 
 mul-x : tie.Need-mul-x Inv-loop μ-loop
 mul-x c =
-    let p = c .before .before .before .pre in
+    let p = c .before .before .before .before .pre in
     scaled-fits _ 81 4 (node-small (p .0) (p .1 .1 .1 .1)) (lit< tt)
 
-element-copy-out-x : tie.Need-element-copy-out-x Inv-loop μ-loop
-element-copy-out-x c = omega (arith, c .before .before .before .pre .0 .few)
+shared-slice-read-x : tie.Need-shared-slice-read-x Inv-loop μ-loop
+shared-slice-read-x c =
+    let p = entry c .pre in
+    omega (arith, p .0 .few, p .1 .1 .0 .long)
 
 cast-x : tie.Need-cast-x Inv-loop μ-loop
 cast-x c =
@@ -105,8 +107,10 @@ add-x c = omega (arith, next (passing c) .2)
 mul-x-2 : tie.Need-mul-x-2 Inv-loop μ-loop
 mul-x-2 c = omega (arith, next (passing c) .2)
 
-element-copy-out-x-2 : tie.Need-element-copy-out-x-2 Inv-loop μ-loop
-element-copy-out-x-2 c = omega (arith, next (passing c) .2)
+shared-slice-read-x-2 : tie.Need-shared-slice-read-x-2 Inv-loop μ-loop
+shared-slice-read-x-2 c =
+    let a = passing (c .before) in
+    omega (arith, start (a .before) .pre .1 .1 .0 .long, next a .0, next a .1)
 
 cast-x-2 : tie.Need-cast-x-2 Inv-loop μ-loop
 cast-x-2 c =
@@ -150,7 +154,7 @@ depth-spec =
     sub-need
     need-requires
     mul-x
-    element-copy-out-x
+    shared-slice-read-x
     cast-x
     loop-holds
     sub-e
@@ -161,7 +165,7 @@ depth-spec =
     sub-x
     add-x
     mul-x-2
-    element-copy-out-x-2
+    shared-slice-read-x-2
     cast-x-2
     loop-less
     loop-again

@@ -18,13 +18,13 @@ abbrev μ-loop : tie.MeasureT-loop
 μ-loop net₀ m n tails heads pot₀ weight supply₀ demand₀ nodes stamp₀ via₀ i₀ net pot supply demand stamp via i = n + 1 - i + sum (n + 1) (at demand)
 
 mul-nodes : tie.Need-mul-nodes Inv-loop μ-loop
-mul-nodes c = omega (arith, c .before .pre .0 .network .few)
+mul-nodes c = omega (arith, c .before .before .before .pre .0 .network .few)
 
 add-nodes : tie.Need-add-nodes Inv-loop μ-loop
-add-nodes c = omega (arith, c .before .pre .0 .network .few)
+add-nodes c = omega (arith, c .before .before .before .pre .0 .network .few)
 
 loop-holds : tie.Need-loop-holds Inv-loop μ-loop
-loop-holds c = (refl, refl, sending-start (c .before .pre .0), λ k l. refl)
+loop-holds c = (refl, refl, sending-start (c .before .before .before .pre .0), λ k l. refl)
 
 mul-want : tie.Need-mul-want Inv-loop μ-loop
 mul-want c = omega (arith, sending-place (c .before .loop .inv .2) (c .loop-test .taken))

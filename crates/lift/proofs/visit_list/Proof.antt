@@ -3,6 +3,7 @@ use native.Mathlib.Omega.{arith}
 use borrow.Author.Needs.{needs}
 use Prim.Native.Nat.{ℕ, _+_, _*_, _-_, _≤_, _<_}
 use mathlib.Core.Path.{_≡_}
+use lib.ListN.{length}
 use Rattle.network.specs.Stored.{at, headOf}
 use Rattle.network.specs.Index.{Last, Listed, Unlisted, listing-fits, list-next}
 use Rattle.lift.specs.Lift.{Passes, ListedBelow, visit-asks, visit-passes, passes-none, passes-then, passes-ends, list-first, list-step}
@@ -17,15 +18,15 @@ abbrev μ-loop : tie.MeasureT-loop
 μ-loop net m nodes heads pot₀ queue₀ v b t base r₀ x₀ pot queue r x = x
 
 mul-base : tie.Need-mul-base Inv-loop μ-loop
-mul-base c = omega (arith, c .before .pre .0 .0 .few)
+mul-base c = omega (arith, c .before .before .pre .0 .0 .few)
 
 sub-base : tie.Need-sub-base Inv-loop μ-loop
-sub-base c = omega (arith, c .before .pre .0 .0 .some)
+sub-base c = omega (arith, c .before .before .pre .0 .0 .some)
 
-element-copy-out-x : tie.Need-element-copy-out-x Inv-loop μ-loop
-element-copy-out-x c =
+shared-slice-read-x : tie.Need-shared-slice-read-x Inv-loop μ-loop
+shared-slice-read-x c =
     let entry : tie.Start Inv-loop μ-loop = search needs in
-    omega (arith, entry .pre .0 .2, entry .pre .0 .0 .few)
+    omega (arith, entry .pre .0 .2, entry .pre .0 .0 .few, entry .pre .1 .long)
 
 cast-x : tie.Need-cast-x Inv-loop μ-loop
 cast-x c =
@@ -42,7 +43,7 @@ loop-holds c =
 
 -- the start of the function, from a turn of the loop
 abbrev entry : tie.In-loop Inv-loop μ-loop → tie.Start Inv-loop μ-loop
-entry c = c .before .before .before .before
+entry c = c .before .before .before .before .before
 
 -- the edge that a turn visits
 abbrev edge : tie.In-loop Inv-loop μ-loop → ℕ
@@ -64,10 +65,10 @@ edge-next c =
 
 -- the place of that one
 edge-place : (c : tie.In-loop Inv-loop μ-loop) → let a = entry c .args in
-    (2 * a .nodes - 2 ≤ edge c) × (81 + (edge c - (2 * a .nodes - 2)) < 400)
+    (2 * a .nodes - 2 ≤ edge c) × (81 + (edge c - (2 * a .nodes - 2)) < length (a .heads .now))
 edge-place c =
     let l = edge-listed c in
-    (l .1, omega (arith, l .0, listing-fits (entry c .pre .0 .0) .2))
+    (l .1, omega (arith, l .0, entry c .pre .1 .long))
 
 visit-requires : tie.Need-visit-requires Inv-loop μ-loop
 visit-requires c κs =
@@ -93,8 +94,8 @@ add-x c = omega (arith, edge-place (search needs))
 mul-x-2 : tie.Need-mul-x-2 Inv-loop μ-loop
 mul-x-2 c = omega (arith, edge-place (search needs))
 
-element-copy-out-x-2 : tie.Need-element-copy-out-x-2 Inv-loop μ-loop
-element-copy-out-x-2 c = edge-place (search needs) .1
+shared-slice-read-x-2 : tie.Need-shared-slice-read-x-2 Inv-loop μ-loop
+shared-slice-read-x-2 c = edge-place (search needs) .1
 
 cast-x-2 : tie.Need-cast-x-2 Inv-loop μ-loop
 cast-x-2 c =
@@ -133,7 +134,7 @@ visit-list-spec =
     mul-base
     sub-base
     (λ c. search needs)
-    element-copy-out-x
+    shared-slice-read-x
     cast-x
     loop-holds
     (λ c. search needs)
@@ -142,7 +143,7 @@ visit-list-spec =
     sub-x
     add-x
     mul-x-2
-    element-copy-out-x-2
+    shared-slice-read-x-2
     cast-x-2
     loop-less
     loop-again

@@ -34,10 +34,10 @@ element-copy-out-p : tie.Need-element-copy-out-p Inv-loop μ-loop
 element-copy-out-p c = node-small (entry c .pre .0) (c .before .loop .inv .inside)
 
 mul-p-2 : tie.Need-mul-p-2 Inv-loop μ-loop
-mul-p-2 c = fits-under w64 _ 2000 (edge (search needs) .near) tt
+mul-p-2 c = fits-under w64 _ 16000 (edge (search needs) .near) tt
 
 mul-a : tie.Need-mul-a Inv-loop μ-loop
-mul-a c = scaled-fits _ 2000 4 (edge (search needs) .near) (lit< tt)
+mul-a c = scaled-fits _ 16000 4 (edge (search needs) .near) (lit< tt)
 
 shared-slice-read-a : tie.Need-shared-slice-read-a Inv-loop μ-loop
 shared-slice-read-a c = edge (search needs) .first
@@ -46,10 +46,10 @@ cast-a : tie.Need-cast-a Inv-loop μ-loop
 cast-a c = fits-under w64 _ 81 (edge (search needs) .tail) tt
 
 add-b : tie.Need-add-b Inv-loop μ-loop
-add-b c = fits-under w64 _ 2000 (edge (search needs) .near-second) tt
+add-b c = fits-under w64 _ 16000 (edge (search needs) .near-second) tt
 
 mul-b : tie.Need-mul-b Inv-loop μ-loop
-mul-b c = scaled-fits _ 2000 4 (edge (search needs) .near-second) (lit< tt)
+mul-b c = scaled-fits _ 16000 4 (edge (search needs) .near-second) (lit< tt)
 
 shared-slice-read-b : tie.Need-shared-slice-read-b Inv-loop μ-loop
 shared-slice-read-b c = edge (search needs) .second
@@ -58,10 +58,10 @@ cast-b : tie.Need-cast-b Inv-loop μ-loop
 cast-b c = fits-under w64 _ 81 (edge (search needs) .head) tt
 
 add-spare : tie.Need-add-spare Inv-loop μ-loop
-add-spare c = fits-under w64 _ 2000 (edge (search needs) .near-fourth) tt
+add-spare c = fits-under w64 _ 16000 (edge (search needs) .near-fourth) tt
 
 mul-spare : tie.Need-mul-spare Inv-loop μ-loop
-mul-spare c = scaled-fits _ 2000 4 (edge (search needs) .near-fourth) (lit< tt)
+mul-spare c = scaled-fits _ 16000 4 (edge (search needs) .near-fourth) (lit< tt)
 
 shared-slice-read-spare : tie.Need-shared-slice-read-spare Inv-loop μ-loop
 shared-slice-read-spare c = edge (search needs) .fourth

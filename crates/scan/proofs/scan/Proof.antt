@@ -4,6 +4,10 @@ use Rattle.scan.specs.Sweep.{next-scans, scans-still, scanned}
 use Rattle.scan.proofs.scan.Statement.{statement}
 use Rattle.scan.proofs.scan.Tie as tie
 
+-- the start of the function, from a place that `search` finds
+abbrev start : tie.After-scan-box → tie.Start
+start c = c .before .before .before .before .before .before .before .before .before .before
+
 scan-box-requires : tie.Need-scan-box-requires
 scan-box-requires c κs =
     let entry : tie.Start = search needs in
@@ -22,8 +26,7 @@ scan-tails-requires : tie.Need-scan-tails-requires
 scan-tails-requires c κs =
     let after-scan-heads : tie.After-scan-heads = search needs in
     let after-scan-box : tie.After-scan-box = search needs in
-    let entry : tie.Start = search needs in
-    let p = entry .pre in
+    let p = start after-scan-box .pre in
     let a = after-scan-box .scan-box .ensures in
     let h = after-scan-heads .scan-heads .ensures in
     (h .onward .search, (scans-still (scans-still (next-scans (p .0) (p .1 .0)) a) h, p .1 .1 .0))
@@ -32,8 +35,7 @@ returns : tie.Need-returns
 returns c =
     let after-scan-heads : tie.After-scan-heads = search needs in
     let after-scan-box : tie.After-scan-box = search needs in
-    let entry : tie.Start = search needs in
-    let p = entry .pre in
+    let p = start after-scan-box .pre in
     scanned (p .0) (p .1 .0) (after-scan-box .scan-box .ensures) (after-scan-heads .scan-heads .ensures) (c .scan-tails .ensures)
 
 pub scan-spec : {M : Type 1} → statement M

@@ -15,34 +15,34 @@ abbrev μ-loop : tie.MeasureT-loop
 μ-loop net m nodes tails pot stamp₀ via₀ dist₀ order₀ key₀ root t s d w base r₀ x₀ stamp via dist order key r x = x
 
 mul-base : tie.Need-mul-base Inv-loop μ-loop
-mul-base c = omega (arith, c .before .pre .0 .network .few)
+mul-base c = omega (arith, c .before .before .pre .0 .network .few)
 
 sub-base : tie.Need-sub-base Inv-loop μ-loop
-sub-base c = omega (arith, c .before .pre .0 .network .some)
+sub-base c = omega (arith, c .before .before .pre .0 .network .some)
 
 mul-x : tie.Need-mul-x Inv-loop μ-loop
 mul-x c =
-    let p = c .before .pre in
+    let p = c .before .before .pre in
     omega (arith, sweep-sizes (p .0) (p .1 .0) (p .1 .1))
 
-element-copy-out-x : tie.Need-element-copy-out-x Inv-loop μ-loop
-element-copy-out-x c =
-    let p = c .before .pre in
+shared-slice-read-x : tie.Need-shared-slice-read-x Inv-loop μ-loop
+shared-slice-read-x c =
+    let p = c .before .before .before .pre in
     sweep-sizes (p .0) (p .1 .0) (p .1 .1) .2
 
 cast-x : tie.Need-cast-x Inv-loop μ-loop
 cast-x c =
-    let p = c .before .before .pre in
+    let p = c .before .before .before .pre in
     omega (arith, sweep-sizes (p .0) (p .1 .0) (p .1 .1))
 
 loop-holds : tie.Need-loop-holds Inv-loop μ-loop
 loop-holds c =
-    let p = c .before .before .pre in
+    let p = c .before .before .before .pre in
     sweep-none (p .0) (p .1 .0) (p .1 .1)
 
 -- the start of the function, from a turn of the loop
 abbrev entry : tie.In-loop Inv-loop μ-loop → tie.Start Inv-loop μ-loop
-entry c = c .before .before .before .before
+entry c = c .before .before .before .before .before
 
 -- the edge that a turn visits, and the next of its list
 step : (c : tie.In-loop Inv-loop μ-loop) → let a = entry c .args in
@@ -64,8 +64,8 @@ add-x c = omega (arith, step (search needs) .place)
 mul-x-2 : tie.Need-mul-x-2 Inv-loop μ-loop
 mul-x-2 c = omega (arith, step (search needs) .place)
 
-element-copy-out-x-2 : tie.Need-element-copy-out-x-2 Inv-loop μ-loop
-element-copy-out-x-2 c = step (search needs) .place .1
+shared-slice-read-x-2 : tie.Need-shared-slice-read-x-2 Inv-loop μ-loop
+shared-slice-read-x-2 c = step (search needs) .place .1
 
 cast-x-2 : tie.Need-cast-x-2 Inv-loop μ-loop
 cast-x-2 c = omega (arith, step (search needs) .small)
@@ -91,7 +91,7 @@ scan-tails-spec =
     mul-base
     sub-base
     mul-x
-    element-copy-out-x
+    shared-slice-read-x
     cast-x
     loop-holds
     (λ c. omega arith)
@@ -99,7 +99,7 @@ scan-tails-spec =
     sub-x
     add-x
     mul-x-2
-    element-copy-out-x-2
+    shared-slice-read-x-2
     cast-x-2
     loop-less
     loop-again

@@ -1,6 +1,8 @@
 -- `search` meets its contract, by that of `admit_rules`.
 use native.Mathlib.Omega.{arith}
+use Prim.Native.Nat.{ℕ, _+_, _≤_}
 use mathlib.Core.Path.{_∙_}
+use lib.ListN.{length, replicate, length-replicate}
 use Rattle.potentials.specs.Pairs.{replicate-most}
 use Rattle.schedule.specs.Schedule.{tried-start}
 use borrow.Author.Needs.{needs}
@@ -20,12 +22,13 @@ admit-rules-requires c κs =
     let after-boxes : tie.After-boxes = search needs in
     let entry : tie.Start = search needs in
     let b = after-boxes .boxes .ensures in
-    (entry .pre .0, (omega (arith, b .0, entry .pre .1 .0), tried-start (entry .pre .0) (omega (arith, b .0, entry .pre .1 .0)) (entry .pre .1 .1) (b .1 .0)))
+    let room : 81 + entry .args .t .rules ≤ length (replicate {A = ℕ} 400 0) = omega (arith, entry .pre .0 .most, length-replicate {A = ℕ} 400 0) in
+    (entry .pre .0, (omega (arith, b .0, entry .pre .1 .0), (tried-start (entry .pre .0) (omega (arith, b .0, entry .pre .1 .0)) (entry .pre .1 .1) (b .1 .0), (room, room))))
 
 same-length : tie.Need-same-length
 same-length c =
     let after-boxes : tie.After-boxes = search needs in
-    c .before .before .admit-rules .ensures .1 ∙ after-boxes .boxes .ensures .0
+    c .before .before .before .before .admit-rules .ensures .1 ∙ after-boxes .boxes .ensures .0
 
 returns : tie.Need-returns
 returns c =
@@ -38,6 +41,8 @@ search-spec =
     tie.close
     (tie.spec
     boxes-requires
+    (λ c. search needs)
+    (λ c. search needs)
     admit-rules-requires
     same-length
     returns)

@@ -31,7 +31,7 @@ abbrev waits : tie.After-key3 Inv-loop μ-loop → tie.Else2 Inv-loop μ-loop
 waits c = c .before .before .before .before .before
 
 -- a node was not looked at when the turn began
-more : (c : tie.Else1 Inv-loop μ-loop) → unseen c .loop .seen < unseen c .before .before .before .args .nodes
+more : (c : tie.Else1 Inv-loop μ-loop) → unseen c .loop .seen < unseen c .before .before .before .before .before .args .nodes
 more c = omega (arith, unseen c .loop .inv .reached, c .before .before .before .loop-test .taken)
 
 -- the nearest node is in range, and not all are reached
@@ -41,19 +41,19 @@ near c =
     near-asks (unseen e .loop .inv) (e .before .last-goal .ensures) (e .if1 .left) (more e) (idle c .if2 .taken) (c .next .ensures)
 
 mul-stamp : tie.Need-mul-stamp Inv-loop μ-loop
-mul-stamp c = omega (arith, root-small (c .before .before .pre))
+mul-stamp c = omega (arith, root-small (c .before .before .before .before .pre))
 
 element-write-stamp : tie.Need-element-write-stamp Inv-loop μ-loop
-element-write-stamp c = root-small (c .before .before .pre)
+element-write-stamp c = root-small (c .before .before .before .before .pre)
 
 mul-dist : tie.Need-mul-dist Inv-loop μ-loop
-mul-dist c = omega (arith, root-small (c .before .before .pre))
+mul-dist c = omega (arith, root-small (c .before .before .before .before .pre))
 
 element-write-dist : tie.Need-element-write-dist Inv-loop μ-loop
-element-write-dist c = root-small (c .before .before .pre)
+element-write-dist c = root-small (c .before .before .before .before .pre)
 
 loop-holds : tie.Need-loop-holds Inv-loop μ-loop
-loop-holds c = searching-start (c .before .before .pre)
+loop-holds c = searching-start (c .before .before .before .before .pre)
 
 last-goal-requires : tie.Need-last-goal-requires Inv-loop μ-loop
 last-goal-requires c κs = goal-asks (c .before .before .loop .inv)
@@ -107,7 +107,7 @@ scan-requires : tie.Need-scan-requires Inv-loop μ-loop
 scan-requires c κs =
     let e = waits c .before in
     let i = unseen e in
-    let p = i .before .before .before .pre in
+    let p = i .before .before .before .before .before .pre in
     (i .loop .inv .search, (scan-asks (i .loop .inv) (e .before .last-goal .ensures) (e .if1 .left) (more e) (waits c .if2 .left), (p .by-tail, p .by-head)))
 
 add-s : tie.Need-add-s Inv-loop μ-loop

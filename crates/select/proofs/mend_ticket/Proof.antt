@@ -1,8 +1,8 @@
 -- `mend_ticket` meets its contract, by that of `select`.
 use native.Mathlib.Omega.{arith}
 use borrow.Author.Needs.{needs}
-use Prim.Native.Nat.{ℕ}
-use lib.ListN.{length-replicate}
+use Prim.Native.Nat.{ℕ, _+_, _≤_}
+use lib.ListN.{length, replicate, length-replicate}
 use Rattle.potentials.specs.Arrays.{valid-given}
 use Rattle.potentials.specs.Pairs.{replicate-most}
 use Rattle.select.specs.Selecting.{boxes-tried}
@@ -19,7 +19,8 @@ select-requires c κs =
     let G = valid-given (c .before .before .before .before .before .before .before .before .before .args .t) (c .before .before .before .before .before .before .before .before .before .pre) in
     let b = c .before .before .before .before .before .boxes .ensures in
     let s = c .before .before .before .before .before .before .before .before .before in
-    ((s .pre, omega (arith, G .few, G .most, b .0, length-replicate {A = ℕ} 1344 0)), boxes-tried (s .args .t) (s .pre) (omega (arith, G .few, b .0, length-replicate {A = ℕ} 1344 0)) (b .1 .0))
+    let room : 81 + s .args .t .rules ≤ length (replicate {A = ℕ} 400 0) = omega (arith, G .most, length-replicate {A = ℕ} 400 0) in
+    ((s .pre, omega (arith, G .few, G .most, b .0, length-replicate {A = ℕ} 1344 0)), (boxes-tried (s .args .t) (s .pre) (omega (arith, G .few, b .0, length-replicate {A = ℕ} 1344 0)) (b .1 .0), (room, room)))
 
 pub mend-ticket-spec : {M : Type 1} → statement M
 mend-ticket-spec =
@@ -27,6 +28,8 @@ mend-ticket-spec =
     (tie.spec
     (λ c. search needs)
     boxes-requires
+    (λ c. search needs)
+    (λ c. search needs)
     (λ c. search needs)
     select-requires
     (λ c. search needs))

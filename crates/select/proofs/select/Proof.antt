@@ -2,7 +2,7 @@
 use native.Mathlib.Omega.{arith}
 use borrow.Author.Needs.{needs}
 use Prim.Native.Nat.{_+_, _-_, _≤_, _<_}
-use mathlib.Core.Path.{_≡_}
+use mathlib.Core.Path.{_≡_, refl, _∙_}
 use lib.ListN.{length}
 use Rattle.demands.specs.Rules.{given-bound}
 use Rattle.potentials.specs.Arrays.{valid-given}
@@ -12,19 +12,21 @@ use Rattle.select.proofs.select.Tie as tie
 
 abbrev Inv-loop : tie.InvT-loop
 Inv-loop net₀ tails₀ heads₀ times₀ t from₀ to₀ bound₀ numbers₀ kept₀ dropped₀ j₀ net tails heads times from to bound numbers kept dropped j =
-    (j ≤ t .rules) × Selecting t (length net₀) net times tails heads j from to bound numbers kept dropped
+    (j ≤ t .rules) × (length tails ≡ length tails₀) × (length heads ≡ length heads₀) × Selecting t (length net₀) net times tails heads j from to bound numbers kept dropped
 
 abbrev μ-loop : tie.MeasureT-loop
 μ-loop net₀ tails₀ heads₀ times₀ t from₀ to₀ bound₀ numbers₀ kept₀ dropped₀ j₀ net tails heads times from to bound numbers kept dropped j = t .rules - j
 
 loop-holds : tie.Need-loop-holds Inv-loop μ-loop
-loop-holds c = (omega arith, selecting-start (c .before .args .t2) (c .before .pre .1))
+loop-holds c =
+    let entry : tie.Start Inv-loop μ-loop = search needs in
+    (omega arith, refl, refl, selecting-start (entry .args .t2) (entry .pre .1 .0))
 
 -- what the stores ask
 few : (c : tie.In-loop Inv-loop μ-loop) → (c .before .loop .j < 256) × (c .before .loop .kept + c .before .loop .dropped ≡ c .before .loop .j)
 few c =
     let entry : tie.Start Inv-loop μ-loop = search needs in
-    selecting-few (c .before .loop .inv .1) (entry .pre .0 .0) (omega arith)
+    selecting-few (c .before .loop .inv .3) (entry .pre .0 .0) (omega arith)
 
 element-copy-out-a : tie.Need-element-copy-out-a Inv-loop μ-loop
 element-copy-out-a c =
@@ -55,8 +57,9 @@ admit-rule-requires : tie.Need-admit-rule-requires Inv-loop μ-loop
 admit-rule-requires c κs =
     let turn : tie.In-loop Inv-loop μ-loop = search needs in
     let entry : tie.Start Inv-loop μ-loop = search needs in
-    let a = selecting-asks (turn .before .loop .inv .1) (entry .pre .0 .0) (omega (arith, turn .loop-test .taken)) (entry .pre .0 .1) in
-    (a .0, (a .1, a .2))
+    let a = selecting-asks (turn .before .loop .inv .3) (entry .pre .0 .0) (omega (arith, turn .loop-test .taken)) (entry .pre .0 .1) in
+    let f = few turn in
+    (a .0, (a .1, (a .2, (omega arith, omega arith))))
 
 array-write-from : tie.Need-array-write-from Inv-loop μ-loop
 array-write-from c =
@@ -92,7 +95,7 @@ loop-again c =
     let lj : l .j < entry .args .t2 .rules = omega (arith, turn .loop-test .taken) in
     let bound = given-bound (valid-given (entry .args .t2) (entry .pre .0 .0)) (l .j) lj in
     let A = rw bound at (after-admit-rule .admit-rule .ensures) in
-    (omega arith, rw bound (selecting-kept (l .inv .1) (entry .pre .0 .0) lj (rw (c .if1 .taken) at A)))
+    (omega arith, c .before .before .before .before .tails .given ∙ l .inv .1, c .before .before .heads .given ∙ l .inv .2, rw bound (selecting-kept (l .inv .3) (entry .pre .0 .0) lj (rw (c .if1 .taken) at A)))
 
 mul-numbers : tie.Need-mul-numbers Inv-loop μ-loop
 mul-numbers c =
@@ -118,17 +121,23 @@ loop-again-2 c =
     let lj : l .j < entry .args .t2 .rules = omega (arith, turn .loop-test .taken) in
     let bound = given-bound (valid-given (entry .args .t2) (entry .pre .0 .0)) (l .j) lj in
     let A = rw bound at (after-admit-rule .admit-rule .ensures) in
-    (omega arith, selecting-dropped (l .inv .1) (entry .pre .0 .0) lj (rw (c .if1 .left) at A))
+    (omega arith, c .before .before .before .before .tails .given ∙ l .inv .1, c .before .before .heads .given ∙ l .inv .2, selecting-dropped (l .inv .3) (entry .pre .0 .0) lj (rw (c .if1 .left) at A))
 
 same-length : tie.Need-same-length Inv-loop μ-loop
 same-length c =
     let at-loop : tie.At-loop Inv-loop μ-loop = search needs in
-    at-loop .loop .inv .1 .tried .long
+    at-loop .loop .inv .3 .tried .long
+
+same-length-2 : tie.Need-same-length-2 Inv-loop μ-loop
+same-length-2 c = c .before .before .loop .inv .1
+
+same-length-3 : tie.Need-same-length-3 Inv-loop μ-loop
+same-length-3 c = c .before .before .loop .inv .2
 
 returns : tie.Need-returns Inv-loop μ-loop
 returns c =
     let at-loop : tie.At-loop Inv-loop μ-loop = search needs in
-    (selecting-mended (at-loop .loop .inv .1) (omega arith), selecting-listed (at-loop .loop .inv .1) (omega arith))
+    (selecting-mended (at-loop .loop .inv .3) (omega arith), selecting-listed (at-loop .loop .inv .3) (omega arith))
 
 pub select-spec : {M : Type 1} → statement M
 select-spec =
@@ -156,4 +165,6 @@ select-spec =
     (λ c. search needs)
     loop-again-2
     same-length
+    same-length-2
+    same-length-3
     returns)

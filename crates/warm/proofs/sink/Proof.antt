@@ -15,34 +15,34 @@ abbrev μ-loop : tie.MeasureT-loop
 μ-loop net m n tails pot₀ nodes v₀ pot v = n + 1 - v
 
 mul-nodes : tie.Need-mul-nodes Inv-loop μ-loop
-mul-nodes c = omega (arith, c .before .pre .0 .few)
+mul-nodes c = omega (arith, c .before .before .pre .0 .few)
 
 add-nodes : tie.Need-add-nodes Inv-loop μ-loop
-add-nodes c = omega (arith, c .before .pre .0 .few)
+add-nodes c = omega (arith, c .before .before .pre .0 .few)
 
 loop-holds : tie.Need-loop-holds Inv-loop μ-loop
-loop-holds c = (omega arith, omega arith, c .before .pre .1 .0, λ i l. refl)
+loop-holds c = (omega arith, omega arith, c .before .before .pre .1 .0, λ i l. refl)
 
 depth-requires : tie.Need-depth-requires Inv-loop μ-loop
 depth-requires c κs =
-    let p = c .before .before .before .before .pre in
+    let p = c .before .before .before .before .before .pre in
     (p .0, (c .before .before .loop .inv .2, (p .1 .1 .0, (omega arith, omega arith))))
 
 mul-pot : tie.Need-mul-pot Inv-loop μ-loop
-mul-pot c = omega (arith, c .before .before .before .before .before .pre .0 .few)
+mul-pot c = omega (arith, c .before .before .before .before .before .before .pre .0 .few)
 
 element-write-pot : tie.Need-element-write-pot Inv-loop μ-loop
-element-write-pot c = omega (arith, c .before .before .before .before .before .pre .0 .few)
+element-write-pot c = omega (arith, c .before .before .before .before .before .before .pre .0 .few)
 
 add-v : tie.Need-add-v Inv-loop μ-loop
-add-v c = omega (arith, c .before .before .before .before .before .pre .0 .few)
+add-v c = omega (arith, c .before .before .before .before .before .before .pre .0 .few)
 
 loop-less : tie.Need-loop-less Inv-loop μ-loop
-loop-less c = omega (arith, c .before .before .before .before .before .pre .0 .few)
+loop-less c = omega (arith, c .before .before .before .before .before .before .pre .0 .few)
 
 loop-again : tie.Need-loop-again Inv-loop μ-loop
 loop-again c =
-    let p = c .before .before .before .before .before .pre in
+    let p = c .before .before .before .before .before .before .pre in
     let a = c .before .before .before .loop in (
       omega arith,
       omega arith,

@@ -30,7 +30,7 @@ widest-requires c κs =
     let p = entry .pre in
     let B = after-build .build .ensures .0 in
     let S = p .1 .1 in
-    (p .0 .few, (built-flowless B (p .0) (S .limits) _ (S .long) (S .meeting), built-spans B (p .0) (S .limits)))
+    ((p .0 .few, omega (arith, p .0 .few, p .0 .most)), (built-flowless B (p .0) (S .limits) (omega arith) _ (S .long) (S .meeting), built-spans B (p .0) (S .limits)))
 
 read-windows-requires : tie.Need-read-windows-requires
 read-windows-requires c κs =
