@@ -1,5 +1,5 @@
-// The seven functions that a host program in C calls: planning, the latest plan and commitment on numbers and byte slices, the table of distances, that table
-// after some of its stops, the reason why a ticket is impossible, and the mended ticket.
+// The eight functions that a host program in C calls: planning, the latest plan and commitment on numbers and byte slices, the table of distances, that table
+// after some of its stops, the reason why a ticket is impossible, the mended ticket, and one device's part.
 // The first three hold the scratch that crate `plan` works in, so that number 10 says that the output is too short. Nobody sees it, so it is not cleared.
 ghost use mathlib.Core.Path.{_≡_};
 ghost use mathlib.Core.List.{map};
@@ -10,6 +10,7 @@ ghost use Rattle.table.specs.Lent.{ruleOf};
 ghost use Rattle.stops.specs.After.{tableAfter};
 ghost use Rattle.reasons.specs.Reasoning.{reasoning};
 ghost use Rattle.mending.specs.Mending.{mending};
+ghost use Rattle.parts.specs.Parting.{parting};
 use ticket::RECORD_BYTES;
 
 // The scratch of a call; as a call's result it is no list of 1,824 literals in the proofs.
@@ -118,4 +119,15 @@ pub extern "C" fn beyunlak_mend(ticket: &[u8], out: &mut [u8], dropped: &mut [u8
 {
     let mended = mend::mend(ticket, out, dropped);
     mended.number
+}
+
+// The events of one device and their windows in the plan of its part, after their count, at the start of `out`. The answer is 0, or the number of the first cause
+// to refuse.
+#[no_mangle]
+pub extern "C" fn beyunlak_part(ticket: &[u8], device: u32, out: &mut [u8]) -> u32
+    ensures { λ r. ⌜ r ≡ parting (now (ticket .entry)) device (now (out .entry)) .number ⌝ }
+    ensures { λ _. ⌜ now (out .exit) ≡ parting (now (ticket .entry)) device (now (out .entry)) .out ⌝ }
+{
+    let parted = part::part(ticket, device, out);
+    parted.number
 }

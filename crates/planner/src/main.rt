@@ -1,4 +1,5 @@
-// Prints the plan of the ticket on standard input, or the number under which the ticket is refused. With the argument `latest` it is the latest plan.
+// Prints the plan of the ticket on standard input and under it the totals of the five devices' parts, or the number under which the ticket is refused. With the
+// argument `latest` it is the latest plan.
 // It reads at most one byte more than the longest ticket has, so its memory and its time do not grow with the input.
 mod print;
 
@@ -12,11 +13,11 @@ fn input() -> [u8; 1585]
     [0u8; 1585]
 }
 
-// The longest text: a heading of 27 bytes and 40 lines of 44.
-fn output() -> [u8; 1787]
-    ensures { λ r. ⌜ 1787 ≡ length r ⌝ }
+// The longest text: a heading of 27 bytes, 40 lines of 44, and one of 55.
+fn output() -> [u8; 1842]
+    ensures { λ r. ⌜ 1842 ≡ length r ⌝ }
 {
-    [0u8; 1787]
+    [0u8; 1842]
 }
 
 // Whether the first argument is the word `latest`; one that is longer has length 0 here.

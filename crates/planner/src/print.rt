@@ -1,6 +1,6 @@
-// What the program prints for the bytes of a ticket: they are planned, and the record that planning wrote is read and printed. Where `latest` says so, it is
-// the latest plan.
-// Rests on `plan`, on `reading_records` for the record, and on `text` for its text.
+// What the program prints for the bytes of a ticket: they are planned, the record that planning wrote is read and printed, and under it the totals of the five
+// devices' parts. Where `latest` says so, it is the latest plan.
+// Rests on `plan`, on `reading_records` for the record, on `part_windows` for the totals, and on `text` for the text.
 
 ghost use mathlib.Core.Path.{_≡_};
 ghost use Prim.Native.Nat.{_≤_};
@@ -24,7 +24,7 @@ fn scratch() -> [u32; 1824]
 
 // What the program prints for a ticket.
 pub fn print(ticket: &[u8], latest: bool, text: &mut [u8]) -> usize
-    requires { ⌜ 1787 ≤ length (now text) ⌝ }
+    requires { ⌜ 1842 ≤ length (now text) ⌝ }
     ensures { λ r. ⌜ Puts (printed latest (now (ticket .entry))) (now (text .entry)) (now (text .exit)) 0 r ⌝ }
     ensures { λ r. ⌜ Counts r (now (text .exit)) ⌝ }
 {
@@ -38,5 +38,8 @@ pub fn print(ticket: &[u8], latest: bool, text: &mut [u8]) -> usize
     let n = answer.length;
     let read = reading_records::read_record(&out[..n]);
     let plan = read.plan;
-    text::put_plan(text, plan, answer.total)
+    let next = text::put_plan(text, plan, answer.total);
+    let t = plan.ticket;
+    let totals = part_windows::totals(t);
+    text::put_totals(text, next, &totals)
 }

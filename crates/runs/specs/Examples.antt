@@ -111,8 +111,11 @@ latest1 = bytes1 ++ (two 2 ++ (window 0 9 15 ++ (window 0 13 13 ++ none)))
 abbrev pub record3 : List ℕ
 record3 = bytes1 ++ (two 2 ++ (window 0 15 15 ++ (window 0 13 19 ++ none)))
 
+abbrev pub byOwners4 : ℕ → ℕ → ℕ → List ℕ
+byOwners4 a b c = four 5 ++ (two 3 ++ (a ∷ b ∷ c ∷ (two 2 ++ (rule 1 2 0 ++ rule 2 3 0))))
+
 abbrev pub bytes4 : List ℕ
-bytes4 = four 5 ++ (two 3 ++ (3 ∷ 3 ∷ 3 ∷ (two 2 ++ (rule 1 2 0 ++ rule 2 3 0))))
+bytes4 = byOwners4 3 3 3
 
 abbrev pub record4 : List ℕ
 record4 = bytes4 ++ (two 3 ++ (window 0 0 5 ++ (window 0 0 0 ++ (window 0 0 0 ++ none))))
@@ -126,8 +129,11 @@ bytes7 c = four 10 ++ (two 1 ++ (3 ∷ (two 1 ++ minus 1 0 c)))
 abbrev pub bytes8 : List ℕ
 bytes8 = four 0 ++ (two 0 ++ two 0)
 
+abbrev pub byOwners10 : ℕ → ℕ → List ℕ
+byOwners10 a b = four 5 ++ (two 2 ++ (a ∷ b ∷ two 0))
+
 abbrev pub bytes10 : List ℕ
-bytes10 = four 5 ++ (two 2 ++ (3 ∷ 3 ∷ two 0))
+bytes10 = byOwners10 3 3
 
 -- ---- the table
 
@@ -200,12 +206,6 @@ countings =
 -- ---- weights (02, change 7): P4 and P10 with other owners
 
 -- of three owners, and of two
-abbrev pub byOwners4 : ℕ → ℕ → ℕ → List ℕ
-byOwners4 a b c = four 5 ++ (two 3 ++ (a ∷ b ∷ c ∷ (two 2 ++ (rule 1 2 0 ++ rule 2 3 0))))
-
-abbrev pub byOwners10 : ℕ → ℕ → List ℕ
-byOwners10 a b = four 5 ++ (two 2 ++ (a ∷ b ∷ two 0))
-
 -- the database has 1..3
 abbrev pub record10 : List ℕ
 record10 = byOwners10 0 4 ++ (two 2 ++ (window 0 0 5 ++ (window 0 1 3 ++ none)))

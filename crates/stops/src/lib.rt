@@ -14,7 +14,7 @@ use table::OUTPUT;
 use ticket::Ticket;
 
 // The entries before the first stop.
-fn first_entries(t: Ticket) -> [u64; 1681]
+pub fn first_entries(t: Ticket) -> [u64; 1681]
     requires { ⌜ Valid (content t) ⌝ }
     ensures { λ r. ⌜ (length r ≡ 1681) × Everywhere 40 (λ i j. entry r i j ≡ firstEntries (content t) i j) ⌝ }
 {

@@ -87,6 +87,11 @@ heading events total = line (112 ∷ 108 ∷ 97 ∷ 110 ∷ []) (decimal events 
 abbrev pub eventLine : ℕ → ℕ → Window → List ℕ
 eventLine event owner w = line (decimal event) (decimal owner ∷ decimal (w .opens) ∷ decimal (w .closes) ∷ [])
 
+-- the five part totals in owner order (02, change 8): "one line with the five part totals"
+abbrev pub totalsLine : List ℕ → List ℕ
+totalsLine totals =
+    line (decimal (getD totals 0 0)) (decimal (getD totals 1 0) ∷ decimal (getD totals 2 0) ∷ decimal (getD totals 3 0) ∷ decimal (getD totals 4 0) ∷ [])
+
 -- the line of the event at index i of three lists
 abbrev pub lineAt : (owners opens closes : List ℕ) → ℕ → List ℕ
 lineAt owners opens closes i = eventLine (i + 1) (getD owners i 0) (record { opens = getD opens i 0; closes = getD closes i 0 })

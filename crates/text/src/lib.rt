@@ -5,7 +5,7 @@ ghost use mathlib.Core.Path.{_≡_};
 ghost use Prim.Native.Nat.{_+_, _*_, _<_, _≤_};
 ghost use mathlib.Core.List.{[], _∷_, _++_};
 ghost use lib.ListN.{length};
-ghost use Rattle.text.specs.Text.{decimal, refusal, heading, eventLine, each, lineAt, recordText};
+ghost use Rattle.text.specs.Text.{decimal, refusal, heading, eventLine, totalsLine, each, lineAt, recordText};
 ghost use Rattle.text.specs.Text.{digit as Text·digit};
 ghost use Rattle.text.specs.Stores.{Puts};
 use ticket::Record;
@@ -84,6 +84,7 @@ fn put_events<'a>(
 ) -> usize
     requires { ⌜ (n ≤ 40) × (at + 44 * n ≤ length (now out)) ⌝ }
     ensures { λ r. ⌜ Puts (each n (lineAt (now (owners .entry)) (now (opens .entry)) (now (closes .entry)))) (now (out .entry)) (now (out .exit)) at r ⌝ }
+    ensures { λ r. ⌜ r ≤ at + 44 * n ⌝ }
 {
     let mut next = at;
     let mut i = 0;
@@ -117,6 +118,7 @@ pub fn put_refusal(out: &mut [u8], number: u32) -> usize
 pub fn put_plan(out: &mut [u8], plan: Record, total: u32) -> usize
     requires { ⌜ (plan .ticket .events ≤ 40) × (1787 ≤ length (now out)) ⌝ }
     ensures { λ r. ⌜ Puts (recordText plan total) (now (out .entry)) (now (out .exit)) 0 r ⌝ }
+    ensures { λ r. ⌜ r ≤ 1787 ⌝ }
 {
     let t = plan.ticket;
     let n = t.events;
@@ -125,4 +127,17 @@ pub fn put_plan(out: &mut [u8], plan: Record, total: u32) -> usize
     let closes = plan.closes;
     let next = put_heading(out, n as u32, total);
     put_events(out, next, n, &owners, &opens, &closes)
+}
+
+// The line of the five part totals.
+pub fn put_totals(out: &mut [u8], at: usize, totals: &[u32; 5]) -> usize
+    requires { ⌜ at + 55 ≤ length (now out) ⌝ }
+    ensures { λ r. ⌜ Puts (totalsLine (now (totals .entry))) (now (out .entry)) (now (out .exit)) at r ⌝ }
+    ensures { λ r. ⌜ r ≤ at + 55 ⌝ }
+{
+    let a = put_part(out, at, totals[0], b' ');
+    let b = put_part(out, a, totals[1], b' ');
+    let c = put_part(out, b, totals[2], b' ');
+    let d = put_part(out, c, totals[3], b' ');
+    put_part(out, d, totals[4], b'\n')
 }

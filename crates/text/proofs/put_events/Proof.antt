@@ -32,7 +32,7 @@ loop-again c =
 returns : tie.Need-returns Inv-loop μ-loop
 returns c =
     let e : c .before .loop .i ≡ c .before .before .before .args .n = omega arith in
-    rw e at (c .before .loop .inv .2)
+    (rw e at (c .before .loop .inv .2), omega (arith, c .before .loop .inv .1))
 
 pub put-events-spec : {M : Type 1} → statement M
 put-events-spec =

@@ -1,17 +1,20 @@
 -- `planner::print::print` meets its contract: what planning refuses is printed as refused, and otherwise the record that it wrote is read and
 -- printed. Assumes nothing.
-use mathlib.Core.Path.{_≡_, sym, ap, _∙_}
+use mathlib.Core.Path.{_≡_, sym, ap, subst, _∙_}
 use native.Mathlib.Omega.{arith}
 use borrow.Author.Needs.{needs}
+use lib.Dec.{T}
 use lib.ListN.{length}
 use lib.Seq.{length-take-le}
+use Rattle.temporal.specs.Distance.{consistent}
 use Rattle.temporal.specs.Plan.{State}
+use Rattle.temporal.specs.Run.{Valid}
 use Rattle.ticket.specs.Stored.{storedState}
 use Rattle.ticket.specs.declared.ReadRecord.{ReadRecord}
 use Rattle.plan.specs.declared.Answer.{Answer}
 use Rattle.text.specs.Text.{refusal}
-use Rattle.text.specs.Stores.{puts-as, puts-counts}
-use Rattle.planner.specs.Printed.{Said, outcome, printed-refused, printed-planned, said-record, said-text}
+use Rattle.text.specs.Stores.{puts-then, puts-length, puts-as, puts-counts}
+use Rattle.planner.specs.Printed.{Said, outcome, printed-refused, printed-planned, said-record, said-ticket, said-text}
 use Rattle.planner.proofs.print.print.Statement.{statement}
 use Rattle.planner.proofs.print.print.Tie as tie
 
@@ -67,18 +70,35 @@ put-plan-requires c κs =
     let d = said (search needs) .1 in
     (rw (read-as (search needs)) (d .readable .valid .events-limit), search needs)
 
+totals-requires : tie.Need-totals-requires
+totals-requires c κs =
+    let read : tie.After-read-record = search needs in
+    let d = said (read .before .before) .1 in
+    let e = sym (said-ticket d (read .read-record .result .plan) (read-as read)) in
+    (subst Valid e (d .readable .valid), subst (λ k. T (consistent k)) e (d .possible))
+
+put-totals-requires : tie.Need-put-totals-requires
+put-totals-requires c κs =
+    let plan : tie.After-put-plan = search needs in
+    let read : tie.After-read-record = search needs in
+    omega (arith, plan .put-plan .ensures .1, plan .put-plan .kept .0, entry (lent (planned (read .before .before))) .pre)
+
 returns-2 : tie.Need-returns-2
 returns-2 c =
     let read : tie.After-read-record = search needs in
     let done : tie.After-plan-bytes = search needs in
-    let d = said (search needs) .1 in
+    let plan : tie.After-put-plan = search needs in
+    let counted : tie.After-totals = search needs in
+    let line : tie.After-put-totals = search needs in
+    let d = said (read .before .before) .1 in
     let q = puts-as
-    (said-text d (read .read-record .result .plan) (done .plan-bytes .result .total) (read-as read) (ap (λ (r : Answer). r .total) (done .plan-bytes .ensures .answer-is)))
-    (c .before .before .put-plan .ensures) in
+    (said-text d (read .read-record .result .plan) (done .plan-bytes .result .total) (counted .totals .result) (read-as read)
+    (ap (λ (r : Answer). r .total) (done .plan-bytes .ensures .answer-is)) (counted .totals .ensures))
+    (puts-then (plan .put-plan .ensures .0) (line .put-totals .ensures .0)) in
     (q, puts-counts q)
 
 pub print-spec : {M : Type 1} → statement M
 print-spec =
     tie.close
     (tie.spec (λ c κs. search needs) (λ c κs. search needs) (λ c. search needs) (λ c. search needs) (λ c κs. search needs) (λ c κs. search needs) (λ c. search needs) returns
-    array-share-prefix-out slice-aggregate-read-record (λ c κs. search needs) put-plan-requires (λ c. search needs) returns-2)
+    array-share-prefix-out slice-aggregate-read-record (λ c κs. search needs) put-plan-requires totals-requires put-totals-requires (λ c. search needs) returns-2)
