@@ -8,12 +8,14 @@
 # make reason    why no times keep its rules, with the names of its events and of the devices in $(ROSTER)
 # make mend      its text without the rules that cannot be kept with those before them, each of which a comment names;
 #                the bytes of the mended ticket are target/mended
+# make part      the part of $(DEVICE), by name or number: its events planned alone, with their names, and the part's total
 # make install   the header, the library and the pkg-config file, under $(PREFIX)
 PREFIX = /usr/local
 TICKET = examples/tickets/p1.txt
 ROSTER = examples/roster.names
 STOPS =
 export BY = shutter 6..10, shutter 10..10
+export DEVICE = camera
 ARCHIVE = target/staticlib/libbeyunlak.a
 
 ifneq ($(filter-out 1,$(STOPS)),)
@@ -58,10 +60,15 @@ mend: library
 	tools/ticket encode $(TICKET) target/ticket
 	target/mend target/mended <target/ticket | tools/ticket mended $(TICKET)
 
+part: library
+	$(CC) -std=c99 -O2 -Iinclude examples/part.c $(ARCHIVE) -o target/part
+	tools/ticket encode $(TICKET) target/ticket
+	device=$$(tools/ticket device "$$DEVICE") && target/part $$device <target/ticket | tools/ticket part $(TICKET)
+
 install: library
 	install -d $(DESTDIR)$(PREFIX)/include $(DESTDIR)$(PREFIX)/lib/pkgconfig
 	install -m 644 include/beyunlak.h $(DESTDIR)$(PREFIX)/include
 	install -m 644 $(ARCHIVE) $(DESTDIR)$(PREFIX)/lib
 	sed 's,@PREFIX@,$(PREFIX),' beyunlak.pc.in >$(DESTDIR)$(PREFIX)/lib/pkgconfig/beyunlak.pc
 
-.PHONY: all library program plan latest commit table reason mend install
+.PHONY: all library program plan latest commit table reason mend part install

@@ -8,7 +8,7 @@
  * of the free events as far as that allows. beyunlak_table tells how far apart in time any two points can be,
  * and beyunlak_table_after what stands in its table on the way there, stop by stop. beyunlak_reason tells in
  * words why no times keep all rules. beyunlak_mend drops from such a ticket each rule that cannot be kept with
- * those kept before it.
+ * those kept before it. beyunlak_part plans the events of one device alone.
  *
  * Link with libbeyunlak.a. It needs no other library, keeps nothing between two calls, allocates nothing
  * and makes no system call.
@@ -17,8 +17,8 @@
  *   A tick is a tenth of a second. Point 0 is the start of the session, at tick 0. Points 1 to n are the
  *   events. Every event lies between tick 0 and the horizon, without a rule that says so.
  *
- * A TICKET, the input of both plans, of a working table, of a reason and of mending, whose first output is a
- *   ticket too. Numbers are unsigned and little-endian unless noted.
+ * A TICKET, the input of both plans, of a working table, of a reason, of a part and of mending, whose first
+ *   output is a ticket too. Numbers are unsigned and little-endian unless noted.
  *     offset       bytes  field
  *     0            4      horizon, 0 to 1,000,000
  *     4            2      n, the number of events, 0 to 40
@@ -121,9 +121,27 @@
  *   A list has 2 + 2d bytes, and the mended ticket m - d rules. Neither length is returned, since d stands in
  *   the list, and n and the number of rules in the mended ticket.
  *
+ * A PART, the output of beyunlak_part: the events of one device, planned alone.
+ *     offset   bytes  field
+ *     0        2      e, the number of the device's events, 0 to n
+ *     2 + 9k   9      for k from 0 to e - 1, the events rising:
+ *                       1 byte   the event's number, 1 to n
+ *                       4 bytes  open, as in a record
+ *                       4 bytes  close, as in a record
+ *   A part has 2 + 9e bytes. Its length is not returned, since e stands in it.
+ *   What is planned has the ticket's horizon, the device's events and point 0, and keeps all distances among
+ *   these: for any two of these points i and j it has the rule from i to j with bound D(i, j), which stands in
+ *   the table of the whole ticket, and no other rules. Every choice of one tick in each window of a part keeps
+ *   these rules. Choices from the parts of two devices together may break a rule between their events.
+ *   The total of a part is the sum of close - open times the device's weight. The totals of the five parts sum
+ *   to no less than the total of the plan. Where no rule joins events of two devices they sum to it, and the
+ *   windows of the parts are those of the plan. The ticket of examples/host.c has the plan 5..11 and 9..9 with
+ *   the total 18. Its camera's part has event 1 with 5..15, its lamps' part event 2 with 8..19, the other three
+ *   are empty, and the totals are 30, 0, 11, 0 and 0.
+ *
  * WHAT IS LEFT IN THE OUTPUT
- *   Answer 0: the record, the table, the text or the mended ticket stands at the start of `out`, and the list
- *   of dropped rules at the start of `dropped`; what lies after each is as it was.
+ *   Answer 0: the record, the table, the text, the mended ticket or the part stands at the start of `out`, and
+ *   the list of dropped rules at the start of `dropped`; what lies after each is as it was.
  *   Any other answer: all of `out` and all of `dropped` is as it was. beyunlak_reason then writes 0 to *length.
  *
  * WHAT A CALLER OWES
@@ -132,8 +150,8 @@
  *     commitment, swap two buffers (see below).
  *   - While a call runs, nobody else writes its input or touches its output.
  *   Calls in several threads need no lock where each has memory of its own. Every function ends after a
- *   bounded number of steps, whatever it is given, and uses less than 40 kilobytes of stack (measured; it
- *   depends on how the library was compiled).
+ *   bounded number of steps, whatever it is given, and uses less than 40 kilobytes of stack, beyunlak_part
+ *   less than 100 (measured; it depends on how the library was compiled).
  *   Bytes from a stranger are safe: they are refused or accepted, and never read or written past their length.
  *
  * EXAMPLE (examples/host.c is a whole program)
@@ -198,6 +216,11 @@ extern "C" {
 #define BEYUNLAK_DROPPED_LENGTH(d) (2 + 2 * (size_t)(d))
 #define BEYUNLAK_DROPPED_MAX 514
 
+/* Parts: how many bytes a part of e events has, and the longest part. The output of a part holds at least as
+ * many as that, also for fewer events: under that the answer is BEYUNLAK_SHORT. */
+#define BEYUNLAK_PART_LENGTH(e) (2 + 9 * (size_t)(e))
+#define BEYUNLAK_PART_MAX 362
+
 /* The devices that own events, how many they are, and what a tick of width counts in the total for each. */
 #define BEYUNLAK_DEVICES 5
 enum beyunlak_owner {
@@ -220,21 +243,21 @@ struct beyunlak_rule {
 /* The answers. An output's length is tested first. Then the input is read field by field in the order of its
  * bytes, each field's presence before its value, and the first cause decides. Each rule is a field, each window
  * with its flag, and each count: one that is too low is 14, though the next is cut off. Then come 9 for a plan,
- * and 15, 11, 13, 18 in this order for a commitment. The orders of both tables, of a reason and of mending
- * stand at beyunlak_table, beyunlak_table_after, beyunlak_reason and beyunlak_mend. */
+ * and 15, 11, 13, 18 in this order for a commitment. The orders of both tables, of a reason, of mending and of
+ * a part stand at beyunlak_table, beyunlak_table_after, beyunlak_reason, beyunlak_mend and beyunlak_part. */
 enum beyunlak_answer {
     BEYUNLAK_ACCEPTED = 0,
     BEYUNLAK_CUT = 1,        /* the bytes end inside a field */
     BEYUNLAK_HORIZON = 2,    /* the horizon is above 1,000,000 */
     BEYUNLAK_EVENTS = 3,     /* there are more than 40 events */
-    BEYUNLAK_OWNER = 4,      /* an owner is above 4 */
+    BEYUNLAK_OWNER = 4,      /* an owner is above 4, or the device of a part */
     BEYUNLAK_RULES = 5,      /* there are more than 256 rules */
     BEYUNLAK_POINTS = 6,     /* a point of a rule is above n, or both are the same */
     BEYUNLAK_BOUND = 7,      /* a bound is below -1,000,000 or above 1,000,000 */
     BEYUNLAK_TRAILING = 8,   /* bytes follow the end of the ticket or record */
-    BEYUNLAK_IMPOSSIBLE = 9, /* no times keep all rules (planning and both tables) */
-    BEYUNLAK_SHORT = 10,     /* an output is shorter than BEYUNLAK_RECORD_MAX, _TABLE_MAX, _REASON_MAX or, for
-                                mending, _TICKET_MAX or _DROPPED_MAX */
+    BEYUNLAK_IMPOSSIBLE = 9, /* no times keep all rules (planning, both tables and a part) */
+    BEYUNLAK_SHORT = 10,     /* an output is shorter than BEYUNLAK_RECORD_MAX, _TABLE_MAX, _REASON_MAX, _PART_MAX
+                                or, for mending, _TICKET_MAX or _DROPPED_MAX */
     BEYUNLAK_EVENT = 11,     /* a commitment to event 0 or to one above n */
     BEYUNLAK_COMMITTED = 12, /* no longer answered: a committed event may be committed again */
     BEYUNLAK_WINDOW = 13,    /* open is above close, or they are not inside the event's window */
@@ -314,6 +337,18 @@ uint32_t beyunlak_reason(const uint8_t *ticket, size_t ticket_len, const uint8_t
  */
 uint32_t beyunlak_mend(const uint8_t *ticket, size_t ticket_len, uint8_t *out, size_t out_len,
                        uint8_t *dropped, size_t dropped_len);
+
+/*
+ * The part of `device`, one of enum beyunlak_owner, in a ticket: at the start of `out` the device's events with
+ * their windows, planned as beyunlak_plan plans a ticket, with the same weights, from the distances of the
+ * whole ticket among these events and point 0. Of all sets of windows from which every choice keeps these
+ * distances it is the one of the largest total width; where several have the same, the one in which every open
+ * and every close is earliest. A device that owns no events has a part of two bytes, both 0.
+ * examples/part.c is a whole program.
+ * Answers 0, or the first of these that applies: 10 (`out` is shorter than BEYUNLAK_PART_MAX), 4 (`device` is
+ * above 4), 1 to 8 (the ticket, as in beyunlak_plan), 9.
+ */
+uint32_t beyunlak_part(const uint8_t *ticket, size_t ticket_len, uint32_t device, uint8_t *out, size_t out_len);
 
 #ifdef __cplusplus
 }

@@ -1,6 +1,6 @@
 /* The header against the library: every answer under its name, the lengths, what is left in the outputs, the
- * examples of latest plans and commitments, narrowing again, the counts of the devices, both tables, reasons, and
- * mending.
+ * examples of latest plans and commitments, narrowing again, the counts of the devices, both tables, reasons,
+ * mending, and parts.
  * Prints a line a check, "ok NAME" or "FAILED NAME". Called with a word it leaves out what takes long. */
 #include <stdio.h>
 #include <stdlib.h>
@@ -131,7 +131,7 @@ static void refuses(const char *name, uint32_t answer, uint32_t wanted)
     check(name, answer == wanted && untouched_from(0) && dropped_untouched_from(0));
 }
 
-/* The input is the record, or the mended ticket, that is wanted. */
+/* The input is the record, the mended ticket or the part that is wanted. */
 static void gives(const char *name, uint32_t answer)
 {
     check(name, answer == BEYUNLAK_ACCEPTED && memcmp(out, in, in_len) == 0 && untouched_from(in_len));
@@ -1454,6 +1454,283 @@ static void mend_exact(void)
     }
 }
 
+/* ---- parts */
+
+static uint32_t part(uint32_t device, size_t out_len)
+{
+    fill();
+    return beyunlak_part(in, in_len, device, out, out_len);
+}
+
+/* The part of a device in the place of a plan, with the least room. */
+static uint32_t device_asked;
+
+static uint32_t parting(const uint8_t *ticket, size_t ticket_len, uint8_t *to, size_t to_len)
+{
+    (void)to_len;
+    return beyunlak_part(ticket, ticket_len, device_asked, to, BEYUNLAK_PART_MAX);
+}
+
+/* The part with these events, a number, an open and a close of each. */
+static void part_of(const uint32_t (*events)[3], uint32_t count)
+{
+    in_len = 0;
+    put(count, 2);
+    for (uint32_t k = 0; k < count; k++) {
+        put(events[k][0], 1);
+        put(events[k][1], 4);
+        put(events[k][2], 4);
+    }
+}
+
+/* The ticket's part of this device has these events, in outputs of 362 bytes and more. */
+static void parts(const char *name, uint32_t device, const uint32_t (*events)[3], uint32_t count)
+{
+    static const size_t lengths[] = {BEYUNLAK_PART_MAX, BEYUNLAK_PART_MAX + 1, 400, sizeof out};
+    uint8_t ticket[BEYUNLAK_TICKET_MAX];
+    const size_t ticket_len = in_len;
+    char text[80];
+    memcpy(ticket, in, ticket_len);
+    for (size_t k = 0; k < sizeof lengths / sizeof *lengths; k++) {
+        memcpy(in, ticket, in_len = ticket_len);
+        const uint32_t answer = part(device, lengths[k]);
+        part_of(events, count);
+        sprintf(text, "%s, device %u, %u bytes", name, (unsigned)device, (unsigned)lengths[k]);
+        gives(text, answer);
+    }
+    check("length", in_len == BEYUNLAK_PART_LENGTH(count));
+    memcpy(in, ticket, in_len = ticket_len);
+}
+
+/* Two events of the camera that one of the lamps joins, and one of the database after them. */
+static void by_way(void)
+{
+    start(20, 4);
+    put(BEYUNLAK_CAMERA, 1);
+    put(BEYUNLAK_LAMPS, 1);
+    put(BEYUNLAK_CAMERA, 1);
+    put(BEYUNLAK_DATABASE, 1);
+    put(6, 2);
+    rule(1, 2, 5);
+    rule(2, 1, -3);
+    rule(2, 3, 4);
+    rule(3, 2, -2);
+    rule(3, 4, 9);
+    rule(4, 3, -1);
+}
+
+static void part_examples(void)
+{
+    static const uint32_t shutter[][3] = {{1, 5, 15}}, flash[][3] = {{2, 8, 19}};
+    static const uint32_t p4[][3] = {{1, 0, 5}, {2, 0, 0}, {3, 0, 0}}, p6[][3] = {{1, 1, 1}, {2, 0, 0}};
+    static const uint32_t p7[][3] = {{1, 10, 10}}, p10[][3] = {{1, 0, 5}, {2, 0, 5}};
+    static const uint32_t camera[][3] = {{1, 0, 0}, {3, 5, 9}}, lamps[][3] = {{2, 3, 17}}, database[][3] = {{4, 6, 6}};
+    static const uint32_t none[] = {BEYUNLAK_FILTER_WHEEL, BEYUNLAK_STAGE, BEYUNLAK_DATABASE};
+    trains();
+    parts("P1", BEYUNLAK_CAMERA, shutter, 1);
+    parts("P1", BEYUNLAK_LAMPS, flash, 1);
+    for (size_t k = 0; k < 3; k++)
+        parts("P1", none[k], NULL, 0);
+    moves(5, 3, 2);
+    rule(1, 2, 0);
+    rule(2, 3, 0);
+    parts("P4", BEYUNLAK_STAGE, p4, 3);
+    moves(10, 2, 2);
+    rule(1, 2, -1);
+    rule(2, 1, 1);
+    parts("P6", BEYUNLAK_STAGE, p6, 2);
+    moves(10, 1, 1);
+    rule(1, 0, -10);
+    parts("P7", BEYUNLAK_STAGE, p7, 1);
+    moves(5, 2, 0);
+    parts("P10", BEYUNLAK_STAGE, p10, 2);
+    start(0, 0);
+    put(0, 2);
+    for (uint32_t device = 0; device < BEYUNLAK_DEVICES; device++)
+        parts("P8", device, NULL, 0);
+    by_way();
+    parts("by way of others", BEYUNLAK_CAMERA, camera, 2);
+    parts("by way of others", BEYUNLAK_LAMPS, lamps, 1);
+    parts("by way of others", BEYUNLAK_DATABASE, database, 1);
+    parts("by way of others", BEYUNLAK_STAGE, NULL, 0);
+}
+
+/* Outputs under 362 bytes and devices above 4, whatever the ticket is: empty, P1, impossible, or a byte too long. */
+static void part_refusals(void)
+{
+    static const uint32_t wrong[] = {5, 6, 255, 256, 260, 65535, 65536, 0x80000000u, UINT32_MAX};
+    char text[80];
+    check("longest part", BEYUNLAK_PART_MAX == 362 && BEYUNLAK_PART_MAX == BEYUNLAK_PART_LENGTH(BEYUNLAK_EVENTS_MAX));
+    for (int ticket = 0; ticket < 4; ticket++) {
+        static const uint32_t answers[] = {BEYUNLAK_CUT, BEYUNLAK_ACCEPTED, BEYUNLAK_IMPOSSIBLE, BEYUNLAK_TRAILING};
+        in_len = 0;
+        if (ticket == 1)
+            trains();
+        if (ticket > 1) {
+            moves(10, 1, 1);
+            rule(1, 0, -11);
+        }
+        if (ticket == 3)
+            put(0, 1);
+        for (size_t length = 0; length < BEYUNLAK_PART_MAX; length += length < 333 ? 37 : 1) {
+            sprintf(text, "10, ticket %d, an output of %u bytes", ticket, (unsigned)length);
+            refuses(text, part((uint32_t)length % BEYUNLAK_DEVICES, length), BEYUNLAK_SHORT);
+            refuses(text, part(length % 2 ? 5 : UINT32_MAX, length), BEYUNLAK_SHORT);
+        }
+        for (size_t k = 0; k < sizeof wrong / sizeof *wrong; k++) {
+            sprintf(text, "4, ticket %d, device %u", ticket, (unsigned)wrong[k]);
+            refuses(text, part(wrong[k], BEYUNLAK_PART_MAX), BEYUNLAK_OWNER);
+            refuses(text, part(wrong[k], sizeof out), BEYUNLAK_OWNER);
+        }
+        for (uint32_t device = 0; answers[ticket] && device < BEYUNLAK_DEVICES; device++) {
+            sprintf(text, "%u, ticket %d, device %u", (unsigned)answers[ticket], ticket, (unsigned)device);
+            refuses(text, part(device, BEYUNLAK_PART_MAX), answers[ticket]);
+        }
+    }
+}
+
+/* Wherever the bytes of a ticket end it is 1, also after what makes it impossible, and a byte more is 8. */
+static void part_bytes(void)
+{
+    tighter();
+    const size_t whole = in_len;
+    int cut = 1;
+    for (in_len = 0; in_len < whole; in_len++)
+        for (uint32_t device = 0; device < BEYUNLAK_DEVICES; device++)
+            cut = cut && part(device, BEYUNLAK_PART_MAX) == BEYUNLAK_CUT && untouched_from(0);
+    check("1 wherever the bytes end", cut);
+    refuses("9 of a device without events", part(BEYUNLAK_CAMERA, BEYUNLAK_PART_MAX), BEYUNLAK_IMPOSSIBLE);
+    refuses("9 of the device", part(BEYUNLAK_STAGE, BEYUNLAK_PART_MAX), BEYUNLAK_IMPOSSIBLE);
+}
+
+/* Numbers that are the same in every run. */
+static uint32_t drawn = 1;
+
+static uint32_t draw(uint32_t most)
+{
+    drawn = drawn * 1664525 + 1013904223;
+    return (drawn >> 8) % (most + 1);
+}
+
+/* A ticket of so many events and rules, which some times keep. Where it is `apart` no rule joins events of two of the
+ * first `devices` devices, which own the events. */
+static void drawn_ticket(uint32_t devices, uint32_t n, uint32_t m, int apart)
+{
+    uint32_t time[BEYUNLAK_EVENTS_MAX + 1] = {0}, owner[BEYUNLAK_EVENTS_MAX + 1] = {0};
+    start(1000, n);
+    for (uint32_t i = 1; i <= n; i++) {
+        time[i] = draw(1000);
+        put(owner[i] = draw(devices - 1), 1);
+    }
+    put(m, 2);
+    for (uint32_t k = 0; k < m;) {
+        const uint32_t from = draw(n), to = draw(n);
+        if (from == to || (apart && from && to && owner[from] != owner[to]))
+            continue;
+        rule(from, to, (int32_t)time[to] - (int32_t)time[from] + (int32_t)draw(300));
+        k++;
+    }
+}
+
+static uint32_t width(const uint8_t *ends)
+{
+    uint32_t open = 0, close = 0;
+    for (int i = 0; i < 4; i++) {
+        open |= (uint32_t)ends[i] << (8 * i);
+        close |= (uint32_t)ends[4 + i] << (8 * i);
+    }
+    return close - open;
+}
+
+/* The five parts of the ticket have each event once, under its owner, and their totals sum to no less than the plan's;
+ * where it is `apart` to the same, with the windows of the plan. */
+static void plan_and_parts(const char *name, int apart)
+{
+    static uint8_t record[BEYUNLAK_RECORD_MAX];
+    const uint8_t *windows = record + in_len + 2;
+    uint32_t n = (uint32_t)event_count(), total = 0, sum = 0, events = 0;
+    int good = plan(BEYUNLAK_RECORD_MAX) == BEYUNLAK_ACCEPTED, same = 1;
+    memcpy(record, out, sizeof record);
+    for (uint32_t i = 0; i < n; i++)
+        total += BEYUNLAK_WEIGHT(in[6 + i]) * width(windows + 9 * i + 1);
+    for (uint32_t device = 0; device < BEYUNLAK_DEVICES; device++) {
+        uint32_t last = 0;
+        good = good && part(device, BEYUNLAK_PART_MAX) == BEYUNLAK_ACCEPTED && out[0] <= n && out[1] == 0;
+        for (uint32_t k = 0; good && k < out[0]; k++) {
+            const uint8_t *event = out + BEYUNLAK_PART_LENGTH(k);
+            good = event[0] > last && event[0] <= n && in[5 + event[0]] == device;
+            last = event[0];
+            same = same && good && memcmp(event + 1, windows + 9 * (last - 1) + 1, 8) == 0;
+            sum += BEYUNLAK_WEIGHT(device) * width(event + 1);
+            events++;
+        }
+        good = good && untouched_from(BEYUNLAK_PART_LENGTH(out[0]));
+    }
+    check(name, good && events == n && sum >= total && (!apart || (same && sum == total)));
+}
+
+static void parts_of_plans(void)
+{
+    char text[80];
+    trains();
+    plan_and_parts("P1 and its parts", 0);
+    by_way();
+    plan_and_parts("by way of others, and the parts", 0);
+    start(9, ten);
+    for (uint32_t i = 0; i < ten; i++)
+        put(two_each[i], 1);
+    put(0, 2);
+    plan_and_parts("no rules", 1);
+    longest_ticket();
+    plan_and_parts("the longest ticket", 1);
+    for (uint32_t k = 0; k < 60; k++) {
+        const uint32_t n = k < 5 ? BEYUNLAK_EVENTS_MAX : 1 + draw(11);
+        drawn_ticket(BEYUNLAK_DEVICES, n, k < 5 ? BEYUNLAK_RULES_MAX : draw(4 * n), 0);
+        sprintf(text, "drawn ticket %u and its parts", (unsigned)k);
+        plan_and_parts(text, 0);
+        drawn_ticket(BEYUNLAK_DEVICES, n, k < 5 ? BEYUNLAK_RULES_MAX : draw(4 * n), 1);
+        sprintf(text, "no rule joins two devices, ticket %u", (unsigned)k);
+        plan_and_parts(text, 1);
+        drawn_ticket(1, n, k < 5 ? BEYUNLAK_RULES_MAX : draw(4 * n), 1);
+        memset(in + 6, (int)(k % BEYUNLAK_DEVICES), n);
+        sprintf(text, "one device owns all events, ticket %u", (unsigned)k);
+        plan_and_parts(text, 1);
+    }
+}
+
+/* Forty events of a device, in numbers of four bytes: the longest part. */
+static void longest_part(void)
+{
+    static uint32_t all[BEYUNLAK_EVENTS_MAX][3];
+    for (uint32_t k = 0; k < BEYUNLAK_EVENTS_MAX; k++) {
+        all[k][0] = k + 1;
+        all[k][2] = BEYUNLAK_HORIZON_MAX;
+    }
+    longest_ticket();
+    parts("the longest ticket", BEYUNLAK_CAMERA, (const uint32_t(*)[3])all, BEYUNLAK_EVENTS_MAX);
+    parts("the longest ticket", BEYUNLAK_STAGE, NULL, 0);
+}
+
+/* Memory of just the lengths that are asked for, at any address. */
+static void part_exact(void)
+{
+    static const uint32_t shutter[][3] = {{1, 5, 15}};
+    for (size_t k = 0; k < 4; k++) {
+        trains();
+        fill();
+        uint8_t *ticket = malloc(in_len + k), *to = malloc(BEYUNLAK_PART_MAX + k);
+        memcpy(ticket + k, in, in_len);
+        memcpy(to + k, out, BEYUNLAK_PART_MAX);
+        uint32_t answer = beyunlak_part(ticket + k, in_len, BEYUNLAK_CAMERA, to + k, BEYUNLAK_PART_MAX);
+        memcpy(out, to + k, BEYUNLAK_PART_MAX);
+        check("just enough memory, the input", memcmp(ticket + k, in, in_len) == 0);
+        part_of(shutter, 1);
+        gives("just enough memory, the part", answer);
+        free(ticket);
+        free(to);
+    }
+}
+
 int main(int count, char **words)
 {
     (void)words;
@@ -1501,6 +1778,21 @@ int main(int count, char **words)
     mend_exact();
     planning = mending;
     malformed();
+    of = "part: ";
+    planning = beyunlak_plan;
+    part_examples();
+    part_refusals();
+    part_bytes();
+    parts_of_plans();
+    longest_part();
+    part_exact();
+    planning = parting;
+    for (device_asked = 0; device_asked < BEYUNLAK_DEVICES; device_asked++) {
+        char asked[40];
+        sprintf(asked, "part of device %u: ", (unsigned)device_asked);
+        of = asked;
+        malformed();
+    }
     planning = beyunlak_plan_latest;
     of = "latest ";
     tickets();

@@ -58,22 +58,22 @@ while IFS='|' read -r name wanted latest; do
     wanted=${wanted# }
     plans "examples/tickets/${name% }" "${wanted% }" "${latest# }"
 done <<'CASES'
-p1 | plan 2 18/1 0 5 11/2 2 9 9 | plan 2 18/1 0 9 15/2 2 13 13
-p4 | plan 3 5/1 3 0 5/2 3 0 0/3 3 0 0 | plan 3 5/1 3 5 5/2 3 5 5/3 3 0 5
-p6 | plan 2 0/1 3 1 1/2 3 0 0 | plan 2 0/1 3 10 10/2 3 9 9
+p1 | plan 2 18/1 0 5 11/2 2 9 9/30 0 11 0 0 | plan 2 18/1 0 9 15/2 2 13 13/30 0 11 0 0
+p4 | plan 3 5/1 3 0 5/2 3 0 0/3 3 0 0/0 0 0 5 0 | plan 3 5/1 3 5 5/2 3 5 5/3 3 0 5/0 0 0 5 0
+p6 | plan 2 0/1 3 1 1/2 3 0 0/0 0 0 0 0 | plan 2 0/1 3 10 10/2 3 9 9/0 0 0 0 0
 p6-impossible | refused 9
-p7 | plan 1 0/1 3 10 10
+p7 | plan 1 0/1 3 10 10/0 0 0 0 0
 p7-impossible | refused 9
-p8 | plan 0 0
+p8 | plan 0 0/0 0 0 0 0
 p9 | refused 1
-p10 | plan 2 10/1 3 0 5/2 3 0 5
-session | plan 9 1500/1 3 30 200/2 1 15 535/3 2 250 490/4 0 540 590/5 4 630 630/6 1 645 645/7 0 650 790/8 4 850 850/9 2 850 850 | plan 9 1500/1 3 30 200/2 1 15 535/3 2 300 490/4 0 540 650/5 4 690 690/6 1 705 705/7 0 710 790/8 4 850 850/9 2 850 900
+p10 | plan 2 10/1 3 0 5/2 3 0 5/0 0 0 10 0
+session | plan 9 1500/1 3 30 200/2 1 15 535/3 2 250 490/4 0 540 590/5 4 630 630/6 1 645 645/7 0 650 790/8 4 850 850/9 2 850 850/570 710 430 170 0 | plan 9 1500/1 3 30 200/2 1 15 535/3 2 300 490/4 0 540 650/5 4 690 690/6 1 705 705/7 0 710 790/8 4 850 850/9 2 850 900/570 710 430 170 0
 CASES
 
 head -c 1048576 /dev/zero >"$work/ticket"
 plans 'a megabyte of zeros' 'refused 8'
 
-# the longest ticket, 1,584 bytes, with the longest text; and one byte more
+# the longest ticket, 1,584 bytes, with the longest first line; and one byte more
 {
     bytes '40420f00 2800'
     bytes 00 40
@@ -82,9 +82,19 @@ plans 'a megabyte of zeros' 'refused 8'
 } >"$work/ticket"
 longest='plan 40 120000000'
 i=1; while [ $i -le 40 ]; do longest="$longest/$i 0 0 1000000"; i=$((i + 1)); done
-plans 'the longest ticket' "$longest"
+plans 'the longest ticket' "$longest/120000000 0 0 0 0"
 printf x >>"$work/ticket"
 plans 'the longest ticket and one byte more' 'refused 8'
+
+# ten events of each device but the database, with the longest line of part totals
+{
+    bytes '40420f00 2800'
+    for device in 00 01 02 03; do bytes $device 10; done
+    bytes 0000
+} >"$work/ticket"
+longest='plan 40 60000000'
+i=1; while [ $i -le 40 ]; do longest="$longest/$i $(((i - 1) / 10)) 0 1000000"; i=$((i + 1)); done
+plans 'the longest line of part totals' "$longest/30000000 10000000 10000000 10000000 0"
 
 # a gigabyte in 64 megabytes of memory: the program answers after 1,585 bytes, and the writer is not held up
 printf 'refused 8\n' >"$work/wanted"
@@ -92,7 +102,7 @@ printf 'refused 8\n' >"$work/wanted"
 same 'a gigabyte of zeros' "$work/wanted" "$work/got"
 
 # bytes that come one by one
-printf 'plan 2 18\n1 0 5 11\n2 2 9 9\n' >"$work/wanted"
+printf 'plan 2 18\n1 0 5 11\n2 2 9 9\n30 0 11 0 0\n' >"$work/wanted"
 dd if=examples/tickets/p1.ticket bs=1 2>/dev/null | "$planner" >"$work/got"
 same 'P1, a byte at a time' "$work/wanted" "$work/got"
 
@@ -154,13 +164,33 @@ refuses "horizon 5/event a stage$(i=0; while [ $i -le 256 ]; do printf '/rule st
 bytes '05000000 0100 05 0000' | tools/ticket show >"$work/got" 2>"$work/errors"
 if [ $? -eq 1 ] && grep -q '^refused 4: .*(byte 6)' "$work/errors" && [ ! -s "$work/got" ]; then pass; else fail 'show refuses'; fi
 "$planner" <examples/tickets/p1.ticket | tools/ticket explain >"$work/got"
-printf 'accepted: 2 events, total 18\nevent 1, camera: any tick from 5 to 11\nevent 2, lamps: any tick from 9 to 9\n' >"$work/wanted"
+p1_alone='each device alone: camera 30, filter-wheel 0, lamps 11, stage 0, database 0'
+printf 'accepted: 2 events, total 18\nevent 1, camera: any tick from 5 to 11\nevent 2, lamps: any tick from 9 to 9\n%s\n' "$p1_alone" >"$work/wanted"
 same 'explain a plan' "$work/wanted" "$work/got"
 "$planner" latest <examples/tickets/p1.ticket | tools/ticket explain >"$work/got"
-printf 'accepted: 2 events, total 18\nevent 1, camera: any tick from 9 to 15\nevent 2, lamps: any tick from 13 to 13\n' >"$work/wanted"
+printf 'accepted: 2 events, total 18\nevent 1, camera: any tick from 9 to 15\nevent 2, lamps: any tick from 13 to 13\n%s\n' "$p1_alone" >"$work/wanted"
 same 'explain a latest plan' "$work/wanted" "$work/got"
 "$planner" <examples/tickets/p9.ticket | tools/ticket explain >"$work/got" 2>"$work/errors"
 if [ $? -eq 1 ] && grep -q '^refused 1: the bytes end inside a field' "$work/errors"; then pass; else fail 'explain a refusal'; fi
+printf 'plan 0 0\n0 0 0 0 0\n' | tools/ticket explain >"$work/got"
+printf 'accepted: 0 events, total 0\neach device alone: camera 0, filter-wheel 0, lamps 0, stage 0, database 0\n' >"$work/wanted"
+same 'explain a plan of no events' "$work/wanted" "$work/got"
+# no_answer LINES: the lines are no plan with the totals of its parts; / stands for a line end
+no_answer() {
+    printf '%s\n' "$1" | tr '/' '\n' | tools/ticket explain >"$work/got" 2>"$work/errors"
+    good $(($? != 1)) "explain refuses '$1': exit status"
+    echo 'this is no answer of the program' >"$work/wanted"
+    same "explain refuses '$1'" "$work/wanted" "$work/errors"
+    if [ -s "$work/got" ]; then fail "explain refuses '$1': wrote to standard output"; else pass; fi
+}
+no_answer ''
+no_answer 'plan 0 0'
+no_answer 'plan 2 18/1 0 5 11/2 2 9 9'
+no_answer 'plan 2 18/1 0 5 11/2 2 9 9/30 0 11 0'
+no_answer 'plan 2 18/1 0 5 11/2 2 9 9/30 0 11 0 0 0'
+no_answer 'plan 2 18/1 0 5 11/2 2 9 9/30 0 eleven 0 0'
+no_answer 'plan 2 18/30 0 11 0 0/1 0 5 11/2 2 9 9'
+no_answer 'plan 2 18/1 0 5 11/2 2 9 9/30 0 11 0 0/30 0 11 0 0'
 
 # tells COMMAND NAME TEXT LINES WANTED STATUS: a program's lines with names, or why they are refused; / stands for a line end
 tells() {
@@ -343,7 +373,7 @@ tells commits 'refused' $p1 'refused 9' 'refused 9: no times keep all rules' 1
 # no_run NAME LINES: the lines are no run on the plan of P1
 no_run() { untold commits "$1" $p1 "$2" "this is no run of commitments on the plan of $p1"; }
 no_run 'nothing' ''
-no_run 'a plan of the program' 'plan 2 18/1 0 5 11/2 2 9 9'
+no_run 'a plan of the program' 'plan 2 18/1 0 5 11/2 2 9 9/30 0 11 0 0'
 no_run 'a window missing' 'record 18 0 0 0 0 0/1 0 5 11'
 no_run 'a window too many' "$p1_plan/3 0 5 5"
 no_run 'windows in another order' 'record 18 0 0 0 0 0/2 0 9 9/1 0 5 11'
@@ -469,7 +499,7 @@ no_ring 'unknown event' $p6 'at last stage/by 1 -1/at sooner stage/by 2 0'
 no_ring 'no device' $p6 'at later/by 1 -1/at sooner stage/by 2 0'
 no_ring 'no name of a device' $p6 'at later stage1/by 1 -1/at sooner stage/by 2 0'
 no_ring 'a sum above 0' $p6 'at later stage/by 3 0/at start/by 4 10'
-no_ring 'a plan' $p6 'plan 2 0/1 3 1 1/2 3 0 0'
+no_ring 'a plan' $p6 'plan 2 0/1 3 1 1/2 3 0 0/0 0 0 0 0'
 
 # the ticket of README.md: one name is no label
 printf '%s\n' 'horizon 60s' 'event lamps-on lamps' 'event exposure camera' 'between lamps-on and exposure: 5s..20s' \
@@ -547,12 +577,65 @@ without "$work/forms.txt" '2 3 7'
 printf '# gr\303\266sse\r\nhorizon 9s\r\n\r\nevent a stage # one\r\n\tevent b lamps\n# between a and b: 1s..2s # both\r\nrule a to b: 20\n# dropped rule 2, line 6: rule b to a: -10\n# rule  start to a :5\n# dropped rule 3, line 7: rule start to a: 5\n between start and b: ..7#x\nevent c stage\nbetween c and b: -2 .. 2\n# between c and a: -0.3s..\n# dropped rule 7, line 11: rule a to c: 3\n# dropped 3 of 7 rules: this ticket can be planned\n' >"$work/wanted"
 same 'mended, comments and line ends' "$work/wanted" "$work/mended.txt"
 
+# ---- parts in the text tool
+
+# number DEVICE WANTED: the number of a device
+number() {
+    tools/ticket device "$1" >"$work/got"
+    good $? "device '$1': exit status"
+    echo "$2" >"$work/wanted"
+    same "device '$1'" "$work/wanted" "$work/got"
+}
+number camera 0
+number filter-wheel 1
+number lamps 2
+number stage 3
+number database 4
+for word in 0 1 2 3 4; do number $word $word; done
+no_device='it is none of camera, filter-wheel, lamps, stage, database, and no number 0 to 4'
+for word in wheel filterwheel Camera 'camera ' lamp 5 00 -1 1.0 4294967296 ''; do
+    tools/ticket device "$word" >"$work/got" 2>"$work/errors"
+    good $(($? != 1)) "device refuses '$word': exit status"
+    echo "device '$word': $no_device" >"$work/wanted"
+    same "device refuses '$word'" "$work/wanted" "$work/errors"
+    if [ -s "$work/got" ]; then fail "device refuses '$word': wrote to standard output"; else pass; fi
+done
+
+session=examples/tickets/session.txt
+tells part 'P1, camera' $p1 'part 0 30/1 5 15' 'camera alone: total 30/  shutter 5..15' 0
+tells part 'P1, lamps' $p1 'part 2 11/2 8 19' 'lamps alone: total 11/  flash 8..19' 0
+tells part 'P1, wheel' $p1 'part 1 0' 'filter-wheel alone: total 0, no events' 0
+tells part 'P1, database' $p1 'part 4 0' 'database alone: total 0, no events' 0
+tells part 'no events' examples/tickets/p8.txt 'part 3 0' 'stage alone: total 0, no events' 0
+tells part 'names and numbers of two lengths' $session 'part 2 430/3 0 0/9 170 600' 'lamps alone: total 430/  lamps-on    0..0/  lamps-off 170..600' 0
+tells part 'refused' $p1 'refused 9' 'refused 9: no times keep all rules' 1
+tells part 'refused, the device' $p1 'refused 4' 'refused 4: an owner, or the device of a part, is above 4' 1
+# no_part NAME LINES: the lines are no part of P1
+no_part() { untold part "$1" $p1 "$2" "this is no part of $p1"; }
+no_part 'nothing' ''
+no_part 'no total' 'part 0/1 5 15'
+no_part 'another word' 'parts 0 30/1 5 15'
+no_part 'no such device' 'part 5 0'
+no_part 'an event missing' 'part 0 30'
+no_part 'an event too many' 'part 0 30/1 5 15/2 8 19'
+no_part 'an event of another device' 'part 0 30/2 5 15'
+no_part 'an event of a device that has none' 'part 1 0/1 5 15'
+no_part 'an event twice' 'part 0 30/1 5 15/1 5 15'
+no_part 'no close' 'part 0 30/1 5'
+no_part 'a flag' 'part 0 30/1 0 5 15'
+no_part 'a word in it' 'part 0 30/1 five 15'
+no_part 'a number below 0' 'part 0 30/1 -5 15'
+no_part 'a line that is empty' 'part 1 0/'
+no_part 'two parts' 'part 1 0/part 3 0'
+no_part 'a plan' 'plan 2 18/1 0 5 11/2 2 9 9/30 0 11 0 0'
+untold part 'events in another order' $session 'part 0 570/7 110 300/4 50 50' "this is no part of $session"
+
 for number in 12 16 17 18; do
     echo "refused $number" | tools/ticket explain >"$work/got" 2>"$work/errors"
     if [ $? -eq 1 ] && grep -q "^refused $number: ...*" "$work/errors" && [ ! -s "$work/got" ]; then pass; else fail "explain $number"; fi
 done
-for command in 'list' 'reason' 'mended' 'table' 'stops' 'by' 'by a' 'commits' 'names a b' 'encode a b c d' 'list a b c' 'reason a b c' \
-    'mended a b c' 'table a b c' 'stops a b c' 'by a b c' 'commits a b c'; do
+for command in 'list' 'reason' 'mended' 'device' 'part' 'table' 'stops' 'by' 'by a' 'commits' 'names a b' 'encode a b c d' 'list a b c' \
+    'reason a b c' 'mended a b c' 'device camera lamps' 'part a b c' 'table a b c' 'stops a b c' 'by a b c' 'commits a b c'; do
     # shellcheck disable=SC2086
     tools/ticket $command >"$work/got" 2>"$work/errors"
     if [ $? -eq 2 ] && [ ! -s "$work/got" ]; then pass; else fail "the wrong call '$command'"; fi
@@ -653,9 +736,9 @@ p7-impossible | 1 10 10 | refused 9
 p8 | 1 0 0 | record 0 0 0 0 0 0/commit 1 0 0/refused 11
 p9 | | refused 1
 RUNS
-    # before any commitment it prints the program's plan
+    # before any commitment it prints the program's plan, but for the totals of the parts
     for ticket in examples/tickets/*.ticket; do
-        "$planner" <"$ticket" | awk '$1 == "plan" { print $3; next } $1 != "refused" { $2 = "" } { print }' | tr -s ' ' >"$work/wanted"
+        "$planner" <"$ticket" | awk 'NF == 5 { next } $1 == "plan" { print $3; next } $1 != "refused" { $2 = "" } { print }' | tr -s ' ' >"$work/wanted"
         "$work/commit" <"$ticket" | awk '$1 == "record" { print $2; next } $1 != "refused" { $2 = "" } { print }' | tr -s ' ' >"$work/got"
         same "the plan of $ticket before commitments, with $compiler" "$work/wanted" "$work/got"
     done
@@ -703,8 +786,45 @@ p10 | dropped |
 session | dropped |
 MENDS
     for words in '' 'a b' 'a b c'; do misused mend 'MENDED' "$words"; done
+    $compiler -std=c99 -Wall -Wextra -Werror -pedantic -Iinclude examples/part.c "$library" -o "$work/part"
+    good $? "examples/part.c with $compiler"
+    while IFS='|' read -r name device wanted; do
+        device=${device# } device=${device% }
+        "$work/part" "$device" <"examples/tickets/${name% }.ticket" >"$work/got"
+        status=$?
+        case $wanted in ' refused'*) status=$((status != 1)) ;; esac
+        good $status "part of ${name% }, device $device, with $compiler: exit status"
+        printf '%s\n' "${wanted# }" | tr '/' '\n' >"$work/wanted"
+        same "part of ${name% }, device $device, with $compiler" "$work/wanted" "$work/got"
+    done <<'PARTS'
+p1 | 0 | part 0 30/1 5 15
+p1 | 1 | part 1 0
+p1 | 2 | part 2 11/2 8 19
+p1 | 3 | part 3 0
+p1 | 4 | part 4 0
+p1 | 002 | part 2 11/2 8 19
+p1 | 5 | refused 4
+p1 | 4294967295 | refused 4
+p4 | 3 | part 3 5/1 0 5/2 0 0/3 0 0
+p6 | 3 | part 3 0/1 1 1/2 0 0
+p6-impossible | 3 | refused 9
+p6-impossible | 0 | refused 9
+p6-impossible | 5 | refused 4
+p7 | 3 | part 3 0/1 10 10
+p7-impossible | 3 | refused 9
+p8 | 0 | part 0 0
+p9 | 0 | refused 1
+p9 | 5 | refused 4
+p10 | 3 | part 3 10/1 0 5/2 0 5
+session | 0 | part 0 570/4 50 50/7 110 300
+session | 1 | part 1 710/2 15 45/6 105 785
+session | 2 | part 2 430/3 0 0/9 170 600
+session | 3 | part 3 170/1 30 200
+session | 4 | part 4 0/5 90 90/8 170 170
+PARTS
+    for words in '' camera '0 1' -1 +1 1x 0x1 4294967296 18446744073709551616 -h; do misused part 'DEVICE' "$words"; done
 done
-printf '#include "beyunlak.h"\nint main() { return BEYUNLAK_RECORD_MAX == 1958 && BEYUNLAK_DEVICES == 5 && BEYUNLAK_DROPPED_MAX == 514 ? 0 : 1; }\n' >"$work/host.cpp"
+printf '#include "beyunlak.h"\nint main() { return BEYUNLAK_RECORD_MAX == 1958 && BEYUNLAK_DEVICES == 5 && BEYUNLAK_DROPPED_MAX == 514 && BEYUNLAK_PART_MAX == 362 ? 0 : 1; }\n' >"$work/host.cpp"
 g++ -Wall -Wextra -Werror -pedantic -Iinclude "$work/host.cpp" -o "$work/cpp" && "$work/cpp"
 good $? 'beyunlak.h in C++'
 cat >"$work/host.cpp" <<'HOST'
@@ -752,6 +872,20 @@ int main() {
 HOST
 g++ -Wall -Wextra -Werror -pedantic -Iinclude "$work/host.cpp" "$library" -o "$work/cpp" && "$work/cpp"
 good $? 'beyunlak_mend in C++'
+
+cat >"$work/host.cpp" <<'HOST'
+#include <cstring>
+#include "beyunlak.h"
+int main() {
+    const uint8_t ticket[] = {9, 0, 0, 0, 2, 0, BEYUNLAK_STAGE, BEYUNLAK_LAMPS, 1, 0, 1, 2, 4, 0, 0, 0};
+    const uint8_t wanted[] = {1, 0, 2, 0, 0, 0, 0, 9, 0, 0, 0};
+    uint8_t part[BEYUNLAK_PART_MAX];
+    if (beyunlak_part(ticket, sizeof ticket, BEYUNLAK_LAMPS, part, sizeof part) != BEYUNLAK_ACCEPTED) return 1;
+    return sizeof wanted != BEYUNLAK_PART_LENGTH(1) || std::memcmp(part, wanted, sizeof wanted) ? 1 : 0;
+}
+HOST
+g++ -Wall -Wextra -Werror -pedantic -Iinclude "$work/host.cpp" "$library" -o "$work/cpp" && "$work/cpp"
+good $? 'beyunlak_part in C++'
 
 # the bytes of a record: plans the ticket on standard input and makes the commitments that the words say
 cat >"$work/record.c" <<'HOST'
@@ -825,6 +959,12 @@ for room in 'mended.BEYUNLAK_TICKET_MAX|mended[1584|dropped' 'mended.BEYUNLAK_TI
     same "examples/mend.c with '${room%|*}'" "$work/wanted" "$work/got"
 done
 
+for room in '362|part 0 30/1 5 15' '361|refused 10'; do
+    sized part "s/BEYUNLAK_PART_MAX/${room%%|*}/" 0
+    printf '%s\n' "${room#*|}" | tr '/' '\n' >"$work/wanted"
+    same "examples/part.c, an output of ${room%%|*} bytes" "$work/wanted" "$work/got"
+done
+
 # a ticket is refused with 9 exactly where it has a ring, and has a plan where the reason is 17
 while IFS='|' read -r number name wanted; do
     plan=$("$planner" <"$work/$number.ticket" | head -n 1)
@@ -886,6 +1026,25 @@ for file in "$work/none/mended" "$work" /dev/full; do
     if [ $? -eq 2 ] && [ ! -s "$work/got" ] && [ -s "$work/errors" ]; then pass; else fail "mend to '$file'"; fi
 done
 
+# each part's total is the one that the program prints under the plan and under the latest plan
+for ticket in examples/tickets/*.ticket; do
+    for device in 0 1 2 3 4; do "$work/part" $device <"$ticket"; done | awk '$1 == "part" { line = line " " $3 } END { if (line) print substr(line, 2) }' >"$work/wanted"
+    for word in '' latest; do
+        "$planner" $word <"$ticket" | awk 'NF == 5' >"$work/got"
+        same "the totals of the parts of $ticket${word:+, }$word" "$work/wanted" "$work/got"
+    done
+done
+# parts are refused as plans are
+while IFS='|' read -r number name wanted; do
+    plan=$("$planner" <"$work/$number.ticket" | head -n 1)
+    part=$("$work/part" 3 <"$work/$number.ticket" | head -n 1)
+    case $plan in plan*) part=${part%% *} plan=part ;; esac
+    if [ "$part" = "$plan" ]; then pass; else fail "plan and part of $name"; fi
+done <"$work/reasons"
+printf 'refused 8\n' >"$work/wanted"
+head -c 1048576 /dev/zero | "$work/part" 0 >"$work/got"
+same 'part of a megabyte of zeros' "$work/wanted" "$work/got"
+
 # files: the ticket named, files that are too long, files that are not there
 cp examples/tickets/p7-impossible.ticket "$work/ticket"
 tools/ticket encode $p7 "$work/made" "$work/labels"
@@ -934,12 +1093,24 @@ makes mend 'P7' "$p7_mended" 0 TICKET=$p7
 makes mend 'P1' "$p1_mended" 0 TICKET=$p1
 makes mend 'docs/TEXT-FORM.md' "$turned_mended" 0 TICKET="$work/turned.txt"
 makes mend 'README' "$my_mended" 0 TICKET="$work/my.txt"
-first_plan='plan 2 450/1 2 0 0/2 0 50 200'
+first_plan='plan 2 450/1 2 0 0/2 0 50 200/1650 0 550 0 0'
 tools/ticket encode "$work/got" "$work/made"
 same 'target/mended' "$work/made" target/mended
 "$planner" <target/mended >"$work/got"
 printf '%s\n' "$first_plan" | tr '/' '\n' >"$work/wanted"
 same 'the plan of the mended ticket of README.md' "$work/wanted" "$work/got"
+session_part='camera alone: total 570/  exposure1  50..50/  exposure2 110..300'
+makes part 'nothing named' 'camera alone: total 30/  shutter 5..15' 0
+makes part 'lamps' 'lamps alone: total 11/  flash 8..19' 0 DEVICE=lamps
+makes part 'a number' 'lamps alone: total 11/  flash 8..19' 0 DEVICE=2
+makes part 'a device without events' 'filter-wheel alone: total 0, no events' 0 DEVICE=filter-wheel
+makes part 'docs/TEXT-FORM.md' "$session_part" 0 TICKET=$session
+makes part 'the database' 'database alone: total 0/  stored1  90..90/  stored2 170..170' 0 TICKET=$session DEVICE=database
+makes part 'P7 refused' 'refused 9: no times keep all rules' 2 TICKET=$p7 DEVICE=stage
+DEVICE=lamps makes part 'DEVICE in the environment' 'camera alone: total 30/  shutter 5..15' 0
+for word in wheel 5 'camera lamps' '0; echo x' "camera'" '"0"' "\`echo 0\`" '*' ''; do
+    makes part "the device '$word'" "device '$word': $no_device" 2 DEVICE="$word"
+done
 makes table 'no ticket named' "$p1_told" 0
 makes table 'P4' "$p4_told" 0 TICKET=$p4
 makes table 'P7 refused' 'refused 9: no times keep all rules' 2 TICKET=$p7
@@ -954,6 +1125,16 @@ done
 
 # the ticket of README.md, before its fifth line comes
 head -n 4 "$work/my.txt" >"$work/first.txt"
+first_part='camera alone: total 1650/  exposure 50..600'
+makes part 'README' "$first_part" 0 TICKET="$work/first.txt" DEVICE=camera
+first_latest='plan 2 450/1 2 400 400/2 0 450 600/1650 0 550 0 0'
+first_explained='accepted: 2 events, total 450/event 1, lamps: any tick from 0 to 0/event 2, camera: any tick from 50 to 200/each device alone: camera 1650, filter-wheel 0, lamps 550, stage 0, database 0'
+tools/ticket encode "$work/first.txt" | "$planner" | tools/ticket explain >"$work/got"
+printf '%s\n' "$first_explained" | tr '/' '\n' >"$work/wanted"
+same 'explain the plan of README.md' "$work/wanted" "$work/got"
+tools/ticket encode "$work/first.txt" | "$planner" latest >"$work/got"
+printf '%s\n' "$first_latest" | tr '/' '\n' >"$work/wanted"
+same 'the latest plan of README.md' "$work/wanted" "$work/got"
 first_told='plan: total 450, none accepted/  lamps-on   0..0/  exposure  50..200/exposure commits 100..150: total 200, accepted camera 1/  lamps-on   0..50/  exposure 100..150 committed/exposure commits 120..120: total 70, accepted camera 2/  lamps-on   0..70/  exposure 120..120 committed/lamps-on commits 20..20: total 0, accepted camera 2, lamps 1/  lamps-on  20..20  committed/  exposure 120..120 committed'
 first_by='exposure 10s..15s, exposure 12s..12s, lamps-on 2s..2s'
 p1_by='shutter 6..10, shutter 1s..1s, shutter 9..9, flash 10..12'
@@ -979,8 +1160,12 @@ stands() {
     good $? "$1 has another text than '${2%%/*} ..'"
 }
 stands README.md "$my_told"
+stands README.md "\$ make -s plan TICKET=my.txt | tail -n 4/$first_plan"
+stands README.md "\$ make -s latest TICKET=my.txt | tail -n 4/$first_latest"
+stands README.md "$first_explained"
+stands README.md "\$ make -s part TICKET=my.txt DEVICE=camera | tail -n 2/$first_part"
 stands README.md "\$ make -s mend TICKET=my.txt | tail -n 7/$my_mended"
-stands README.md "\$ make -s plan TICKET=mended.txt | tail -n 3/$first_plan"
+stands README.md "\$ make -s plan TICKET=mended.txt | tail -n 4/$first_plan"
 stands README.md "\$ make -s commit TICKET=my.txt BY=\"$first_by\" | tail -n 12/$first_told"
 stands README.md "$p1_told"
 stands README.md "$p1_stops_told"
@@ -991,6 +1176,8 @@ stands docs/TEXT-FORM.md "$p6_told"
 stands docs/TEXT-FORM.md "$p7_told"
 stands docs/TEXT-FORM.md "$(sed -n 3,6p $p6 | tr '\n' '/')$p6_dropped"
 stands docs/TEXT-FORM.md "\$ make -s mend TICKET=my.txt | tail -n 8/$turned_mended"
+stands docs/TEXT-FORM.md '$ make -s plan | tail -n 4/plan 2 18/1 0 5 11/2 2 9 9/30 0 11 0 0'
+stands docs/TEXT-FORM.md "$session_part"
 
 gcc -std=c99 -Wall -Wextra -Werror -pedantic -Iinclude "$here/doors.c" "$library" -o "$work/doors" && "$work/doors" >"$work/got"
 good $? 'tests/programs/doors.c'
@@ -998,7 +1185,7 @@ while read -r verdict name; do
     if [ "$verdict" = ok ]; then pass; else fail "doors: $name"; fi
 done <"$work/got"
 
-for program in host 'doors short' table 'table stops' 'commit 1 6 10 1 10 10 1 9 9 2 10 12' 'record 1 6 10 2 8 8' 'mend /dev/null'; do
+for program in host 'doors short' table 'table stops' 'commit 1 6 10 1 10 10 1 9 9 2 10 12' 'record 1 6 10 2 8 8' 'mend /dev/null' 'part 0' 'part 1'; do
     # shellcheck disable=SC2086
     valgrind -q --error-exitcode=9 --leak-check=full "$work/"$program <examples/tickets/p1.ticket >/dev/null 2>"$work/errors"
     good $? "$program under valgrind"

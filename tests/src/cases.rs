@@ -4,7 +4,8 @@ use crate::generate::{self, Structure, DEVICE_SETS, STRUCTURES};
 use crate::impossible::{self, ALL_SHAPES, SHAPES};
 use crate::library::Library;
 use crate::model::calls::{self, Asked, Loose, LooseRecord};
-use crate::model::{flags, reading, rings, writing, Commitment, Prefer, Record, Rule, Solver, Ticket, Window};
+use crate::model::{exhaustive, flags, parts, reading, rings, writing};
+use crate::model::{Commitment, Prefer, Record, Rule, Solver, Ticket, Window};
 use crate::model::{BOTH, DEVICES, MOST_ACCEPTED};
 use crate::random::Random;
 use crate::trial::{hex, Lengths, Outputs, Report, Trial, ENOUGH, LEAST};
@@ -55,21 +56,32 @@ pub enum Kind {
     MendingTiny,
     /// Damaged and cut tickets mended, and outputs of other lengths.
     MendingBytes,
+    /// All five parts of tickets of all sizes, of any number for a device, and of damaged tickets.
+    Parts,
+    /// Parts of tiny tickets, expected answers by exhaustive search, which pairs of opens and closes have to give, too.
+    PartsTiny,
+    /// Parts of damaged, cut and extended tickets, for any number of a device, with outputs of other lengths.
+    PartsBytes,
+    /// Parts where no rule joins events of two devices: they are the plan.
+    PartsSeparate,
+    /// Parts of tickets whose events are one device's: that device's is the plan, most of them with 40 events and 256 rules.
+    PartsOneDevice,
     /// Both plans of tickets of one device, of two and of all, and commitments on them.
     Weights,
     /// The same on tiny tickets, expected answers by exhaustive search.
     WeightsTiny,
 }
 
-/// What the calls of a kind are about: reasons and mending have kinds of their own.
+/// What the calls of a kind are about: reasons, mending and parts have kinds of their own.
 #[derive(Clone, Copy, Debug, PartialEq, Eq)]
 pub enum Subject {
     Reasons,
     Mending,
+    Parts,
     Others,
 }
 
-pub const KINDS: [Kind; 24] = [
+pub const KINDS: [Kind; 29] = [
     Kind::Tiny,
     Kind::Structures,
     Kind::Runs,
@@ -94,6 +106,11 @@ pub const KINDS: [Kind; 24] = [
     Kind::MendingBytes,
     Kind::Weights,
     Kind::WeightsTiny,
+    Kind::Parts,
+    Kind::PartsTiny,
+    Kind::PartsBytes,
+    Kind::PartsSeparate,
+    Kind::PartsOneDevice,
 ];
 
 impl Kind {
@@ -123,6 +140,11 @@ impl Kind {
             Kind::MendingBytes => "mending-bytes",
             Kind::Weights => "weights",
             Kind::WeightsTiny => "weights-tiny",
+            Kind::Parts => "parts",
+            Kind::PartsTiny => "parts-tiny",
+            Kind::PartsBytes => "parts-bytes",
+            Kind::PartsSeparate => "parts-separate",
+            Kind::PartsOneDevice => "parts-one-device",
         }
     }
 
@@ -133,10 +155,15 @@ impl Kind {
     /// The kind that a long run tries at this seed.
     pub fn at(seed: u64) -> Kind {
         match Random::new(seed ^ 0x6b69_6e64).below(1_000) {
-            0..=79 => Kind::Tiny,
-            80..=99 => Kind::WeightsTiny,
-            100..=209 => Kind::Structures,
-            210..=239 => Kind::Weights,
+            0..=69 => Kind::Tiny,
+            70..=84 => Kind::WeightsTiny,
+            85..=99 => Kind::PartsTiny,
+            100..=174 => Kind::Structures,
+            175..=199 => Kind::Weights,
+            200..=219 => Kind::Parts,
+            220..=227 => Kind::PartsSeparate,
+            228..=232 => Kind::PartsOneDevice,
+            233..=239 => Kind::PartsBytes,
             240..=279 => Kind::Runs,
             280..=354 => Kind::Foreign,
             355..=379 => Kind::Counts,
@@ -164,6 +191,9 @@ impl Kind {
         match self {
             Kind::Reason | Kind::ReasonTiny | Kind::ReasonLists => Subject::Reasons,
             Kind::Mending | Kind::MendingTiny | Kind::MendingBytes => Subject::Mending,
+            Kind::Parts | Kind::PartsTiny | Kind::PartsBytes | Kind::PartsSeparate | Kind::PartsOneDevice => {
+                Subject::Parts
+            }
             _ => Subject::Others,
         }
     }
@@ -185,6 +215,8 @@ impl Kind {
             Kind::MendingTiny => &[0],
             Kind::MendingBytes => &[0, 1, 2, 3, 4, 5, 6, 7, 8, 10],
             Kind::Weights | Kind::WeightsTiny => &[0, 9, 10, 11, 13],
+            Kind::Parts | Kind::PartsBytes => &[0, 1, 2, 3, 4, 5, 6, 7, 8, 9, 10],
+            Kind::PartsTiny | Kind::PartsSeparate | Kind::PartsOneDevice => &[0, 4, 9, 10],
             _ => &[],
         }
     }
@@ -218,6 +250,11 @@ pub fn run(kind: Kind, seed: u64, library: &dyn Library) -> Report {
         Kind::MendingBytes => mending_bytes(&mut trial, seed),
         Kind::Weights => weights(&mut trial, seed),
         Kind::WeightsTiny => weights_tiny(&mut trial, seed),
+        Kind::Parts => parts(&mut trial, seed),
+        Kind::PartsTiny => parts_tiny(&mut trial),
+        Kind::PartsBytes => parts_bytes(&mut trial, seed),
+        Kind::PartsSeparate => parts_separate(&mut trial),
+        Kind::PartsOneDevice => parts_one_device(&mut trial, seed),
     }
     trial.report
 }
@@ -715,6 +752,95 @@ fn weigh(trial: &mut Trial, ticket: Ticket, seed: u64) {
     commit_on(trial, writing::record(&record), 3, 10, AGAIN);
 }
 
+/// All five parts of a ticket, and what the library's other calls say of them; then a part for any number of a device, with
+/// an output of any length.
+fn parts_of(trial: &mut Trial, ticket: &Ticket) {
+    let bytes = writing::ticket(ticket);
+    let parts = (0..DEVICES as u32).map(|device| trial.part(&bytes, device, calls::PART));
+    if let Some(parts) = parts.collect::<Vec<_>>().into_iter().collect::<Option<Vec<_>>>() {
+        trial.are_parts(ticket, &parts);
+    }
+    let (device, length) = (some_device(&mut trial.random), some_length(calls::PART, &mut trial.random));
+    trial.part(&bytes, device, length);
+}
+
+/// A ticket of one of the ten structures or the eleven shapes, with bounds far above the horizon, or with 256 rules, in half
+/// of the cases shared out among some devices; then the ticket damaged.
+fn parts(trial: &mut Trial, seed: u64) {
+    let random = &mut trial.random;
+    let (n, horizon) = generate::size(random);
+    let mut ticket = match random.below(10) {
+        0 => impossible::ticket(ALL_SHAPES[seed as usize % ALL_SHAPES.len()], random),
+        1 => generate::far(random),
+        2..=3 => generate::full(n, horizon, random),
+        _ => generate::ticket(STRUCTURES[seed as usize % STRUCTURES.len()], n, horizon, random),
+    };
+    if random.chance(50) {
+        ticket = generate::owned_by(random.pick(&DEVICE_SETS), ticket, random);
+    }
+    let damaged = generate::damaged(&writing::ticket(&ticket), random);
+    let device = random.below(DEVICES) as u32;
+    parts_of(trial, &ticket);
+    trial.part(&damaged, device, calls::PART);
+}
+
+fn parts_tiny(trial: &mut Trial) {
+    trial.solver = Solver::Exhaustive;
+    let mut ticket = generate::tiny(&mut trial.random);
+    if trial.random.chance(50) {
+        ticket = generate::owned_by(trial.random.pick(&DEVICE_SETS), ticket, &mut trial.random);
+    }
+    for device in 0..DEVICES as u8 {
+        let table = parts::table(&ticket, Solver::Flow);
+        let by_pairs = table.map(|table| parts::windows(&ticket, device, &table, Solver::Flow));
+        let extended = exhaustive::extended(&ticket, device);
+        let ways = || format!("part of device {device} of {ticket:?}: searched {extended:?}, by pairs {by_pairs:?}");
+        trial.expect(extended == by_pairs, "the model's two ways", ways);
+    }
+    parts_of(trial, &ticket);
+}
+
+/// A ticket of few events damaged, cut and extended, each with an output of the least length for a device that there is,
+/// and with any length for any number of a device.
+fn parts_bytes(trial: &mut Trial, seed: u64) {
+    let shape = ALL_SHAPES[seed as usize % ALL_SHAPES.len()];
+    let bytes = writing::ticket(&impossible::small(shape, &mut trial.random));
+    for _ in 0..4 {
+        let random = &mut trial.random;
+        let damaged = generate::damaged(&bytes, random);
+        let cut = bytes[..random.below(bytes.len() + 1)].to_vec();
+        let more = random.pick(&[1, 2, 9, 362, 2_000]);
+        let extended = [&bytes[..], &vec![random.next() as u8; more]].concat();
+        for bytes in [damaged, cut, extended] {
+            let device = trial.random.below(DEVICES) as u32;
+            trial.part(&bytes, device, calls::PART);
+            let (device, length) = (some_device(&mut trial.random), some_length(calls::PART, &mut trial.random));
+            trial.part(&bytes, device, length);
+        }
+    }
+}
+
+fn parts_separate(trial: &mut Trial) {
+    let random = &mut trial.random;
+    let (n, horizon) = generate::size(random);
+    let ticket = generate::separate(n, horizon, random);
+    parts_of(trial, &ticket);
+}
+
+/// Two cases in three have 40 events, and half of these 256 rules.
+fn parts_one_device(trial: &mut Trial, seed: u64) {
+    let random = &mut trial.random;
+    let (n, horizon) = generate::size(random);
+    let ticket = match seed % 3 {
+        0 => generate::full(40, horizon, random),
+        1 => generate::ticket(random.pick(&STRUCTURES), 40, horizon, random),
+        _ => generate::ticket(random.pick(&STRUCTURES), n, horizon, random),
+    };
+    let device = random.below(DEVICES) as u8;
+    let ticket = generate::owned_by(&[device], ticket, random);
+    parts_of(trial, &ticket);
+}
+
 /// What a ticket is made of, not all of it in range.
 struct Values {
     horizon: u32,
@@ -849,6 +975,16 @@ fn some_stops(n: u32, random: &mut Random) -> u32 {
     match random.below(3) {
         0 => random.pick(&[0, 1, n, n + 1, n + 2, 256, 65_536, u32::MAX]),
         _ => random.below(n as usize + 2) as u32,
+    }
+}
+
+/// A number for a device, three in ten times above 4.
+fn some_device(random: &mut Random) -> u32 {
+    match random.below(10) {
+        0 => 5,
+        1 => random.pick(&[6, 40, 255, 256, 257, 260]),
+        2 => random.pick(&[65_536, 0x0100_0000, 0x7fff_ffff, 0x8000_0000, u32::MAX]),
+        _ => random.below(DEVICES) as u32,
     }
 }
 

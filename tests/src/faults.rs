@@ -9,6 +9,7 @@ use crate::model::{
     distances, reading, text, Commitment, Prefer, Range, Record, Rule, Solver, Ticket, Window, DEVICES,
 };
 use crate::narrowing_faults::{self, NarrowingFault};
+use crate::parts_faults::{self, LineFault, PartFault};
 use crate::reason_faults::{self, ReasonFault};
 use crate::stop_faults::{self, StopFault};
 use crate::weight_faults::{self, WeightFault};
@@ -91,9 +92,13 @@ pub enum Fault {
     Mending(MendingFault),
     /// A fault of what a tick of width counts.
     Weights(WeightFault),
+    /// A fault of a device's part.
+    Parts(PartFault),
+    /// A fault of the line of part totals.
+    Line(LineFault),
 }
 
-/// All faults but those of reasons, of stops, of narrowing again, of counts, of mending and of weights.
+/// All faults but those of reasons, of stops, of narrowing again, of counts, of mending, of weights and of parts.
 pub const FAULTS: [Fault; 32] = [
     Fault::RefusesAll,
     Fault::OnePlan,
@@ -371,14 +376,11 @@ fn cut_at_horizon(loose: &LooseRecord) -> LooseRecord {
     cut
 }
 
-/// The text with each event's number one less.
+/// The text with each event's number one less: in the lines of four numbers.
 fn from_zero(text: String) -> String {
-    let line = |line: &str| match line.split_once(' ') {
-        Some((event, rest)) => match event.parse::<u32>() {
-            Ok(event) => format!("{} {rest}\n", event - 1),
-            Err(_) => format!("{line}\n"),
-        },
-        None => format!("{line}\n"),
+    let line = |line: &str| match line.split(' ').map(str::parse::<u32>).collect::<Result<Vec<_>, _>>().as_deref() {
+        Ok(&[event, owner, open, close]) => format!("{} {owner} {open} {close}\n", event - 1),
+        _ => format!("{line}\n"),
     };
     text.lines().map(line).collect()
 }
@@ -486,12 +488,20 @@ impl Library for Faulty {
         }
     }
 
+    fn part(&self, ticket: &[u8], device: u32, out: &mut [u8]) -> u32 {
+        match self.fault {
+            Fault::Parts(fault) => parts_faults::part(fault, ticket, device, out),
+            _ => Model.part(ticket, device, out),
+        }
+    }
+
     fn printed(&self, prefer: Prefer, ticket: &[u8]) -> String {
         let prefer = if self.fault == Fault::PrintsEarliest { Prefer::Earliest } else { prefer };
         let outcome = self.planned(prefer, ticket);
         match self.fault {
             Fault::PrintsFromZero => from_zero(text::printed(&outcome)),
             Fault::Weights(fault) => text::printed(&weight_faults::shown(fault, outcome)),
+            Fault::Line(fault) => parts_faults::printed(fault, prefer, &outcome),
             _ => text::printed(&outcome),
         }
     }

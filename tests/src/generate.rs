@@ -261,6 +261,42 @@ fn far_bound(random: &mut Random) -> i64 {
     random.pick(&[FARTHEST, FARTHEST, FARTHEST - 1, any])
 }
 
+/// As many rules as a ticket holds, all kept by one hidden schedule, with little or much room.
+pub fn full(n: usize, horizon: u32, random: &mut Random) -> Ticket {
+    let h = horizon as i64;
+    let times: Vec<i64> = (0..=n).map(|k| if k == 0 { 0 } else { random.between(0, h) }).collect();
+    let room = random.pick(&[0, 1, 3, h / 20, h / 4, h]);
+    let mut rules = Rules { list: Vec::new() };
+    while n > 0 && rules.list.len() < MOST_RULES {
+        let (i, j) = (random.below(n + 1), random.below(n + 1));
+        rules.at_most(i, j, times[j] - times[i] + random.between(0, room));
+    }
+    Ticket { horizon, owners: (0..n).map(|_| random.below(5) as u8).collect(), rules: rules.list }
+}
+
+/// Events of several devices and no rule that joins those of two: each device's have rules of one of the structures that go by
+/// the horizon given.
+pub fn separate(n: usize, horizon: u32, random: &mut Random) -> Ticket {
+    let devices = random.pick(&DEVICE_SETS[5..]);
+    let owners: Vec<u8> = (0..n).map(|_| random.pick(devices)).collect();
+    let mut rules = Rules { list: Vec::new() };
+    for device in 0..5 {
+        let points: Vec<usize> = [0].into_iter().chain((1..=n).filter(|event| owners[event - 1] == device)).collect();
+        let structure = loop {
+            let drawn = random.pick(&STRUCTURES);
+            // it has a horizon of its own
+            if !matches!(drawn, Structure::Ends) {
+                break drawn;
+            }
+        };
+        for rule in ticket(structure, points.len() - 1, horizon, random).rules {
+            rules.at_most(points[rule.from as usize], points[rule.to as usize], rule.bound as i64);
+        }
+    }
+    let order = random.order(rules.list.len());
+    Ticket { horizon, owners, rules: order.into_iter().map(|k| rules.list[k]).collect() }
+}
+
 /// At most 4 events over few ticks: every set of windows can be tried.
 pub fn tiny(random: &mut Random) -> Ticket {
     let (n, horizon) =

@@ -32,6 +32,9 @@ pub trait Library: Sync {
     /// The C door of mending: the mended ticket to one output, the list of dropped rules to the other.
     fn mend(&self, ticket: &[u8], out: &mut [u8], dropped: &mut [u8]) -> u32;
 
+    /// The C door of a device's part.
+    fn part(&self, ticket: &[u8], device: u32, out: &mut [u8]) -> u32;
+
     /// What the program prints for these bytes, with the word `latest` where that is preferred.
     fn printed(&self, prefer: Prefer, ticket: &[u8]) -> String;
 }
@@ -94,6 +97,10 @@ impl Library for Model {
 
     fn mend(&self, ticket: &[u8], out: &mut [u8], dropped: &mut [u8]) -> u32 {
         calls::hand_out(|| calls::mend(ticket, Solver::Flow), out, dropped).0
+    }
+
+    fn part(&self, ticket: &[u8], device: u32, out: &mut [u8]) -> u32 {
+        calls::hand_out_part(|| calls::part(ticket, device, Solver::Flow), out).0
     }
 
     fn printed(&self, prefer: Prefer, ticket: &[u8]) -> String {

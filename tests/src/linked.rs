@@ -54,6 +54,7 @@ extern "C" {
         dropped: *mut u8,
         dropped_len: usize,
     ) -> u32;
+    fn beyunlak_part(ticket: *const u8, ticket_len: usize, device: u32, out: *mut u8, out_len: usize) -> u32;
     fn harness_plan(
         ticket: *const u8,
         ticket_len: usize,
@@ -325,6 +326,10 @@ impl Library for Linked {
     fn mend(&self, ticket: &[u8], out: &mut [u8], dropped: &mut [u8]) -> u32 {
         let (bytes, length) = (ticket.as_ptr(), ticket.len());
         unsafe { beyunlak_mend(bytes, length, out.as_mut_ptr(), out.len(), dropped.as_mut_ptr(), dropped.len()) }
+    }
+
+    fn part(&self, ticket: &[u8], device: u32, out: &mut [u8]) -> u32 {
+        unsafe { beyunlak_part(ticket.as_ptr(), ticket.len(), device, out.as_mut_ptr(), out.len()) }
     }
 
     fn printed(&self, prefer: Prefer, ticket: &[u8]) -> String {

@@ -13,6 +13,7 @@ mod mending_faults;
 mod mirror;
 mod model;
 mod narrowing_faults;
+mod parts_faults;
 mod random;
 mod reason_faults;
 mod script;
@@ -29,6 +30,7 @@ use library::Library;
 use mending_faults::MENDING_FAULTS;
 use model::Prefer;
 use narrowing_faults::NARROWING_FAULTS;
+use parts_faults::{LINE_FAULTS, PART_FAULTS};
 use reason_faults::REASON_FAULTS;
 use std::io::Read;
 use std::sync::atomic::{AtomicU64, Ordering};
@@ -39,7 +41,7 @@ use trial::{Report, NUMBERS};
 use weight_faults::WEIGHT_FAULTS;
 
 /// How many seeds of each kind the quick part tries.
-const QUICK: [(Kind, u64); 24] = [
+const QUICK: [(Kind, u64); 29] = [
     (Kind::Tiny, 3_000),
     (Kind::Structures, 3_000),
     (Kind::Runs, 100),
@@ -64,6 +66,11 @@ const QUICK: [(Kind, u64); 24] = [
     (Kind::MendingBytes, 2_000),
     (Kind::Weights, 1_800),
     (Kind::WeightsTiny, 2_700),
+    (Kind::Parts, 2_000),
+    (Kind::PartsTiny, 2_500),
+    (Kind::PartsBytes, 2_000),
+    (Kind::PartsSeparate, 1_000),
+    (Kind::PartsOneDevice, 600),
 ];
 
 const USAGE: &str = "\
@@ -73,6 +80,7 @@ tests/run long SEED COUNT [THREADS [KIND ..]]
 tests/run one KIND SEED              one case: tiny structures runs foreign damaged prefixes lengths values records text
                                      latest latest-tiny reason reason-tiny reason-lists stops narrowing
                                      narrowing-tiny counts mending mending-tiny mending-bytes weights weights-tiny
+                                     parts parts-tiny parts-bytes parts-separate parts-one-device
 tests/run solvers SEED COUNT         the solvers of the model against each other
 tests/run self-check                 libraries with a planted fault: each has to be caught
 tests/run script                     what the model answers to the stored script crates/cases/stdin
@@ -248,7 +256,8 @@ fn self_check() -> i32 {
     let of_calls = REASON_FAULTS.map(Fault::Reason).into_iter().chain(STOP_FAULTS.map(Fault::Stops));
     let of_records = NARROWING_FAULTS.map(Fault::Narrowing).into_iter().chain(COUNTS_FAULTS.map(Fault::Counts));
     let others = MENDING_FAULTS.map(Fault::Mending).into_iter().chain(WEIGHT_FAULTS.map(Fault::Weights));
-    for fault in FAULTS.into_iter().chain(of_calls).chain(of_records).chain(others) {
+    let of_parts = PART_FAULTS.map(Fault::Parts).into_iter().chain(LINE_FAULTS.map(Fault::Line));
+    for fault in FAULTS.into_iter().chain(of_calls).chain(of_records).chain(others).chain(of_parts) {
         let library = Faulty { fault };
         let mut caught: Vec<String> = Vec::new();
         for case in &stored::CASES {
@@ -260,9 +269,15 @@ fn self_check() -> i32 {
         let subject = match fault {
             Fault::Reason(_) => Subject::Reasons,
             Fault::Mending(_) => Subject::Mending,
+            Fault::Parts(_) => Subject::Parts,
             _ => Subject::Others,
         };
-        for kind in KINDS.into_iter().filter(|kind| kind.subject() == subject) {
+        // Of the line of part totals the program alone knows.
+        let shows = |kind: &Kind| match fault {
+            Fault::Line(_) => *kind == Kind::Text,
+            _ => kind.subject() == subject,
+        };
+        for kind in KINDS.into_iter().filter(shows) {
             let seeds = QUICK.iter().find(|(k, _)| *k == kind).map_or(0, |(_, count)| *count).min(300);
             let first = (1..=seeds).find(|&seed| !cases::run(kind, seed, &library).differences.is_empty());
             if let Some(seed) = first {

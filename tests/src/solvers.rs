@@ -1,14 +1,14 @@
 //! The model against itself: exhaustive search and flow on tiny tickets and records, tables by enumeration
 //! and by shortest paths, the latest plan against the mirror of 02 on tickets of all sizes, rings out of all walks and by
-//! least sums of walks, shortest paths over stops in rounds and out of all paths, mending by schedules and by rings, and
-//! bytes that come back from reading and writing.
+//! least sums of walks, shortest paths over stops in rounds and out of all paths, mending by schedules and by rings, parts by
+//! pairs, by flow and by enumeration, and bytes that come back from reading and writing.
 
 use crate::generate::{self, STRUCTURES};
 use crate::impossible::{self, ALL_SHAPES, SHAPES};
 use crate::mirror;
 use crate::model::calls::{self, Outcome};
-use crate::model::{distances, exhaustive, mending, reading, reason, rings, stops, writing, Prefer, Solver, Ticket};
-use crate::model::{BOTH, DEVICES};
+use crate::model::{distances, exhaustive, mending, parts, reading, reason, rings, stops, writing};
+use crate::model::{Prefer, Solver, Ticket, BOTH, DEVICES};
 use crate::random::Random;
 
 fn same(seed: u64, what: &str, by: impl Fn(Solver) -> Outcome, differences: &mut Vec<String>) {
@@ -92,6 +92,22 @@ fn mended(seed: u64, ticket: &Ticket, tiny: bool, differences: &mut Vec<String>)
     }
 }
 
+/// Each device's part by pairs against by flow; of tiny tickets also by enumeration, with distances and without.
+fn parted(seed: u64, ticket: &Ticket, tiny: bool, differences: &mut Vec<String>) {
+    let Some(table) = distances::table(ticket) else { return };
+    for device in 0..DEVICES as u8 {
+        let by_pairs = Some(parts::windows(ticket, device, &table, Solver::Flow));
+        let mut ways = vec![("flow", parts::by_flow(ticket, device, &table))];
+        if tiny {
+            ways.push(("enumeration", Some(parts::windows(ticket, device, &table, Solver::Exhaustive))));
+            ways.push(("schedules of the whole", exhaustive::extended(ticket, device)));
+        }
+        for (way, windows) in ways.into_iter().filter(|(_, windows)| *windows != by_pairs) {
+            differences.push(format!("part {device} at seed {seed}: by pairs {by_pairs:?}, by {way} {windows:?}"));
+        }
+    }
+}
+
 /// Rings, their texts, and mending, of tickets most of which have no schedule.
 fn without_schedule(seed: u64, random: &mut Random, differences: &mut Vec<String>) {
     ringed(seed, &impossible::tiny(&SHAPES, random), true, differences);
@@ -119,6 +135,7 @@ pub fn compare(first: u64, count: u64) -> (u64, Vec<String>) {
             differences.push(format!("table at seed {seed}"));
         }
         stopped(seed, &ticket, table, &mut differences);
+        parted(seed, &ticket, true, &mut differences);
         if reading::ticket(&bytes).as_ref() != Ok(&ticket) {
             differences.push(format!("ticket read again at seed {seed}"));
         }
@@ -137,11 +154,16 @@ pub fn compare(first: u64, count: u64) -> (u64, Vec<String>) {
         }
         let (n, horizon) = generate::size(random);
         let structure = STRUCTURES[seed as usize % STRUCTURES.len()];
-        mirrored(seed, &generate::ticket(structure, n, horizon, random), &mut differences);
+        let larger = generate::ticket(structure, n, horizon, random);
+        mirrored(seed, &larger, &mut differences);
+        parted(seed, &larger, false, &mut differences);
         without_schedule(seed, random, &mut differences);
         let small = generate::ticket(structure, random.below(7), horizon, random);
         stopped(seed, &small, distances::table(&small), &mut differences);
-        tried += 7;
+        let device = random.below(DEVICES) as u8;
+        let alone = generate::owned_by(&[device], generate::full(n, horizon, random), random);
+        parted(seed, &alone, false, &mut differences);
+        tried += 8;
     }
     (tried, differences)
 }

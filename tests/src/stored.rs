@@ -4,6 +4,7 @@
 mod counts;
 mod mending;
 mod narrowing;
+mod parts;
 mod reasons;
 mod stops;
 mod weights;
@@ -16,7 +17,7 @@ use crate::trial::{Lengths, Report, Trial, ENOUGH};
 /// A name and what it tries.
 type Case = (&'static str, fn(&mut Stored));
 
-pub const CASES: [Case; 80] = [
+pub const CASES: [Case; 88] = [
     ("01, P1 and P2", example_1_2),
     ("01, P3", example_3),
     ("01, P4 and P5", example_4_5),
@@ -85,6 +86,14 @@ pub const CASES: [Case; 80] = [
     ("02, change 7: commitments at weight 0", weights::database_commits),
     ("02, change 7: totals", weights::totals),
     ("02, change 7: the largest total", weights::largest),
+    ("02, change 8: P1", parts::example_1),
+    ("02, change 8: P4 to P10", parts::examples_4_to_10),
+    ("02, change 8: by way of other devices", parts::by_way_of_others),
+    ("02, change 8: devices that no rule joins", parts::separate),
+    ("02, change 8: events of one device", parts::one_device),
+    ("02, change 8: a session", parts::session),
+    ("02, change 8: 40 events", parts::forty),
+    ("02, change 8: refusals in their order", parts::refusals),
     ("000, examples 1 and 2: trains", trains),
     ("000, example 3: earliest to latest", trains_earliest_to_latest),
     ("000, examples 4 to 6: a train commits", trains_commitment),

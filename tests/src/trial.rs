@@ -298,6 +298,74 @@ impl<'a> Trial<'a> {
         }
     }
 
+    /// A device's part of these bytes; the part, if the model accepts.
+    pub fn part(&mut self, ticket: &[u8], device: u32, length: usize) -> Option<Vec<u8>> {
+        let call = || format!("part of device {device} of {} with {length} bytes", hex(ticket));
+        let mut out: Lent<u8> = self.lend(length);
+        let mut wanted = out.slice().to_vec();
+        let part = || self.expected(&call, |solver| calls::part(ticket, device, solver));
+        let (number, written) = calls::hand_out_part(part, &mut wanted);
+        let answer = self.library.part(ticket, device, out.slice());
+        self.count(number);
+        self.expect(answer == number, "part's number", || format!("{} answered {answer}, expected {number}", call()));
+        let given = out.first(written as usize).to_vec();
+        self.expect(given == wanted[..given.len()], "part", || {
+            format!("{} wrote {}, expected {}", call(), hex(&given), hex(&wanted[..given.len()]))
+        });
+        self.expect(out.untouched_after(written as usize), "rest of the part's output", call);
+        (number == 0).then_some(given)
+    }
+
+    /// Claims of the five parts of a ticket that need no model, by the library's other answers. By the table, each is of its
+    /// device's events, rising, and fit; where its distances are few enough for a ticket, they are planned to its windows. By
+    /// the plan, each is as wide as that device's windows there, or wider; where no rule joins events of two devices, these
+    /// windows are the parts' and the totals sum to the plan's; and so they are where all events are one device's.
+    pub fn are_parts(&mut self, ticket: &Ticket, parts: &[Vec<u8>]) {
+        let bytes = writing::ticket(ticket);
+        let call = || format!("parts of {}: {:?}", hex(&bytes), parts.iter().map(|part| hex(part)).collect::<Vec<_>>());
+        let library = self.library;
+        let (mut table, mut out) = ([0; calls::TABLE], [0; calls::RECORD]);
+        let numbers = [
+            library.table(ticket.horizon, ticket.events() as u32, &ticket.rules, &mut table),
+            library.plan_door(Prefer::Earliest, &bytes, &mut out),
+        ];
+        self.expect(numbers == [0; 2], "table and plan of a ticket that has parts", call);
+        let record = reading::record(&out[..bytes.len() + 14 + 9 * ticket.events()]);
+        let (Ok(record), [0, 0]) = (record, numbers) else { return };
+        let size = ticket.events() + 1;
+        let distance = |i: usize, j: usize| table[i * size + j];
+        let (mut sum, mut windows) = (0, vec![None; ticket.events()]);
+        for (device, part) in (0..).zip(parts) {
+            let events: Vec<usize> = (1..size).filter(|&event| ticket.owners[event - 1] == device).collect();
+            let is_of_device =
+                |read: &Vec<(usize, Window)>| read.iter().map(|&(event, _)| event).eq(events.iter().copied());
+            let Some(read) = reading::part(part).filter(is_of_device) else {
+                return self.expect(false, "a part's events", call);
+            };
+            let alone = Ticket { owners: vec![device; events.len()], ..among(ticket.horizon, &events, distance) };
+            let given: Vec<Window> = read.iter().map(|&(_, window)| window).collect();
+            self.expect(are_fit(&alone, &given), "a part's windows are fit", call);
+            if alone.rules.len() <= 256 {
+                let of_part = writing::ticket(&alone);
+                let mut out = [0; calls::RECORD];
+                let number = library.plan_door(Prefer::Earliest, &of_part, &mut out);
+                let planned = reading::record(&out[..of_part.len() + 14 + 9 * events.len()]);
+                let same = number == 0 && planned.is_ok_and(|planned| planned.windows == given);
+                self.expect(same, "a part planned as a ticket", call);
+            }
+            let share: Vec<Window> = events.iter().map(|event| record.windows[event - 1]).collect();
+            self.expect(alone.total(&given) >= alone.total(&share), "a part as wide as in the whole plan", call);
+            sum += alone.total(&given);
+            events.iter().zip(given).for_each(|(event, window)| windows[event - 1] = Some(window));
+        }
+        let total = ticket.total(&record.windows);
+        self.expect(sum >= total, "the part totals sum to no less than the total", call);
+        if !joins_devices(ticket) {
+            let same = sum == total && windows == record.windows.iter().copied().map(Some).collect::<Vec<_>>();
+            self.expect(same, "the parts of devices that no rule joins are the plan", call);
+        }
+    }
+
     /// Claims of a plan that need no model, by the library's other answers: wheel, lamps and stage may change places; events
     /// of the camera alone have the windows that the wheel's would have; an event of the database has a tick, where all
     /// events are its the earliest or the latest time.
@@ -399,6 +467,35 @@ fn is_after(ticket: &Ticket, stops: u32, out: &[i32], finished: &[i32]) -> bool 
     }
     out.iter().zip(&least).all(|(&entry, &least)| entry as i64 == least)
         && out.iter().zip(finished).all(|(entry, least)| entry >= least)
+}
+
+/// Whether a rule joins events of two devices.
+fn joins_devices(ticket: &Ticket) -> bool {
+    let owner = |point: u8| ticket.owners[point as usize - 1];
+    ticket.rules.iter().any(|rule| rule.from != 0 && rule.to != 0 && owner(rule.from) != owner(rule.to))
+}
+
+/// A ticket of these events, owned by the camera, with the distance of each ordered pair of different points as a rule.
+fn among(horizon: u32, events: &[usize], distance: impl Fn(usize, usize) -> i32) -> Ticket {
+    let points: Vec<usize> = [0].iter().chain(events).copied().collect();
+    let mut rules = Vec::new();
+    for from in 0..points.len() {
+        for to in (0..points.len()).filter(|&to| to != from) {
+            rules.push(Rule { from: from as u8, to: to as u8, bound: distance(points[from], points[to]) });
+        }
+    }
+    Ticket { horizon, owners: vec![0; events.len()], rules }
+}
+
+/// Whether the windows are windows of the session and keep each rule from the open of its first point to the close of its
+/// second.
+fn are_fit(ticket: &Ticket, windows: &[Window]) -> bool {
+    let ends = |point: u8| match point {
+        0 => (0, 0),
+        _ => (windows[point as usize - 1].open as i64, windows[point as usize - 1].close as i64),
+    };
+    windows.iter().all(|window| window.open <= window.close && window.close <= ticket.horizon)
+        && ticket.rules.iter().all(|rule| ends(rule.to).1 - ends(rule.from).0 <= rule.bound as i64)
 }
 
 /// A ticket, what is left of it and the numbers of the rules that are dropped, out of the bytes. None unless these rise and

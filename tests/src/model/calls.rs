@@ -1,16 +1,17 @@
 //! The calls: what is answered and written, from everything that is lent.
 
-use super::{distances, exhaustive, flags, mending, reading, reason, rings, stops, writing};
+use super::{distances, exhaustive, flags, mending, parts, reading, reason, rings, stops, writing};
 use super::{Commitment, Prefer, Record, Rule, Solver, Ticket, Window, DEVICES, MOST_ACCEPTED};
 
 /// Least sizes: bytes of a ticket's and a record's output, numbers of scratch, numbers of a table, bytes of a reason's output,
-/// bytes of the output for a list of dropped rules.
+/// bytes of the output for a list of dropped rules, bytes of a part's output.
 pub const TICKET: usize = 1_584;
 pub const RECORD: usize = 1_958;
 pub const SCRATCH: usize = 8_192;
 pub const TABLE: usize = 1_681;
 pub const REASON: usize = 2_200;
 pub const DROPPED: usize = 514;
+pub const PART: usize = 362;
 
 /// Number, length and total; the last two are 0 on a refusal.
 #[derive(Clone, Copy, Debug, PartialEq, Eq)]
@@ -277,4 +278,18 @@ pub fn hand_out(mending: impl FnOnce() -> Mending, out: &mut [u8], dropped: &mut
             (0, ticket.len(), list.len())
         }
     }
+}
+
+/// A device's part of a ticket's bytes, once the output is long enough: 4, then 1 to 8, then 9.
+pub fn part(bytes: &[u8], device: u32, solver: Solver) -> Result<Vec<u8>, u32> {
+    let device = u8::try_from(device).ok().filter(|&device| (device as usize) < DEVICES).ok_or(4u32)?;
+    let ticket = reading::ticket(bytes)?;
+    let table = parts::table(&ticket, solver).ok_or(9u32)?;
+    let windows = parts::windows(&ticket, device, &table, solver);
+    Ok(writing::part(&parts::events(&ticket, device), &windows))
+}
+
+/// Writes a part to a lent output: 10, or its number, and the length of what is written.
+pub fn hand_out_part(part: impl FnOnce() -> Result<Vec<u8>, u32>, out: &mut [u8]) -> (u32, u32) {
+    rewrite(out, PART, part)
 }

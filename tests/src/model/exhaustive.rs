@@ -107,7 +107,26 @@ impl Widest {
 
 /// The widest fit set within the ranges, and of these the preferred one.
 pub fn best(ticket: &Ticket, ranges: &[Range], prefer: Prefer) -> Option<Vec<Window>> {
+    best_of(&Schedules::of(ticket), ticket, ranges, prefer)
+}
+
+/// A device's part with no distance looked at: the windows of its events of which every choice is what some schedule of the
+/// whole ticket has for them, the widest and of these the earliest.
+pub fn extended(ticket: &Ticket, device: u8) -> Option<Vec<Window>> {
     let schedules = Schedules::of(ticket);
+    let events: Vec<usize> = (1..=ticket.events()).filter(|&event| ticket.owners[event - 1] == device).collect();
+    let mut goes_on = vec![false; schedules.ticks.pow(events.len() as u32)];
+    for code in (0..schedules.is_schedule.len()).filter(|&code| schedules.is_schedule[code]) {
+        let times = times(code, schedules.ticks, ticket.events());
+        goes_on[events.iter().fold(0, |code, &event| code * schedules.ticks + times[event] as usize)] = true;
+    }
+    let alone = Ticket { owners: vec![device; events.len()], rules: Vec::new(), ..*ticket };
+    let parts = Schedules { is_schedule: goes_on, ..schedules };
+    best_of(&parts, &alone, &alone.any_windows(), Prefer::Earliest)
+}
+
+/// The widest set within the ranges of which every choice is one of these schedules, and of these the preferred one.
+fn best_of(schedules: &Schedules, ticket: &Ticket, ranges: &[Range], prefer: Prefer) -> Option<Vec<Window>> {
     let choices: Vec<Vec<Window>> = ranges.iter().map(windows_within).collect();
     let mut widest = Widest { prefer, total: -1, ends: None };
     let mut place = vec![0; choices.len()];

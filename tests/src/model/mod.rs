@@ -7,6 +7,7 @@ pub mod distances;
 pub mod exhaustive;
 pub mod flow;
 pub mod mending;
+pub mod parts;
 pub mod reading;
 pub mod reason;
 pub mod rings;
@@ -60,8 +61,8 @@ pub struct Range {
     pub close: (u32, u32),
 }
 
-/// How the windows are found; a ring is found by trying every walk, or by least sums of walks; shortest paths by trying
-/// every path, or in rounds.
+/// How the windows are found, of a part also by pairs of opens and closes; a ring is found by trying every walk, or by least
+/// sums of walks; shortest paths by trying every path, or in rounds.
 #[derive(Clone, Copy, Debug, PartialEq, Eq)]
 pub enum Solver {
     Exhaustive,

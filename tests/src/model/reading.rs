@@ -1,4 +1,4 @@
-//! Bytes to tickets, records and lists of dropped rules: field by field in byte order, presence before value.
+//! Bytes to tickets, records, parts and lists of dropped rules: field by field in byte order, presence before value.
 
 use super::{flags, Record, Rule, Ticket, Window, DEVICES, MOST_ACCEPTED};
 
@@ -103,6 +103,17 @@ pub fn dropped(bytes: &[u8]) -> Option<Vec<usize>> {
     let count = fields.number(2).ok()?;
     let numbers = (0..count).map(|_| fields.number(2).map(|number| number as usize)).collect::<Result<_, u32>>();
     numbers.ok().filter(|_| fields.bytes.is_empty())
+}
+
+/// The events of a whole part and their windows; none if its count is not theirs.
+pub fn part(bytes: &[u8]) -> Option<Vec<(usize, Window)>> {
+    let mut fields = Fields { bytes };
+    let count = fields.number(2).ok()?;
+    let mut event = || -> Result<(usize, Window), u32> {
+        Ok((fields.number(1)? as usize, Window { open: fields.number(4)?, close: fields.number(4)? }))
+    };
+    let events = (0..count).map(|_| event()).collect::<Result<_, u32>>();
+    events.ok().filter(|_| fields.bytes.is_empty())
 }
 
 /// A whole record, or the first of 1 to 8 and 14 that applies.

@@ -1,6 +1,6 @@
-//! Tickets, records and lists to bytes.
+//! Tickets, records, parts and lists to bytes.
 
-use super::{Record, Ticket};
+use super::{Record, Ticket, Window};
 
 pub fn ticket(ticket: &Ticket) -> Vec<u8> {
     let mut bytes = Vec::new();
@@ -33,6 +33,17 @@ pub fn record(record: &Record) -> Vec<u8> {
 /// A list of dropped rules: their count, then their numbers.
 pub fn dropped(numbers: &[u16]) -> Vec<u8> {
     [numbers.len() as u16].iter().chain(numbers).flat_map(|number| number.to_le_bytes()).collect()
+}
+
+/// A part: the number of its events, then each one's number, open and close.
+pub fn part(events: &[usize], windows: &[Window]) -> Vec<u8> {
+    let mut bytes = (events.len() as u16).to_le_bytes().to_vec();
+    for (&event, window) in events.iter().zip(windows) {
+        bytes.push(event as u8);
+        bytes.extend(window.open.to_le_bytes());
+        bytes.extend(window.close.to_le_bytes());
+    }
+    bytes
 }
 
 /// A list of names: their count, then each after its length.
