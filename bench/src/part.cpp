@@ -167,14 +167,17 @@ Row measured(const std::string &structure, const std::string &name, int device) 
     return row;
 }
 
-// Over all rows how much of a call's time this takes.
-void means(const char *what, const std::vector<Row> &rows, const std::function<double(const Row &)> &ratio) {
+// Over all rows how much of a call's time this takes, and for a peer in how many rows it is more than asked.
+void means(const char *what, const std::vector<Row> &rows, bool peer, const std::function<double(const Row &)> &ratio) {
     double sum = 0;
     for (const Row &row : rows) sum += std::log(ratio(row));
     const Row &worst = *std::max_element(rows.begin(), rows.end(), [&](const Row &a, const Row &b) { return ratio(a) < ratio(b); });
-    const auto above = std::count_if(rows.begin(), rows.end(), [&](const Row &row) { return ratio(row) > target; });
-    std::printf("%s: geometric mean %.2f, worst row %.2f (%s); above %.2f: %zu of %zu rows\n", what, std::exp(sum / static_cast<double>(rows.size())),
-                ratio(worst), worst.name.c_str(), target, static_cast<size_t>(above), rows.size());
+    std::printf("%s: geometric mean %.2f, worst row %.2f (%s)", what, std::exp(sum / static_cast<double>(rows.size())), ratio(worst), worst.name.c_str());
+    if (peer) {
+        const auto above = std::count_if(rows.begin(), rows.end(), [&](const Row &row) { return ratio(row) > target; });
+        std::printf("; above %.2f: %zu of %zu rows", target, static_cast<size_t>(above), rows.size());
+    }
+    std::printf("\n");
 }
 
 }  // namespace
@@ -200,12 +203,12 @@ int main(int count, char **words) {
         rows.push_back(measured(structure, "wheel", BEYUNLAK_FILTER_WHEEL));
     }
     std::printf("\n");
-    means("part of a plan", rows, [](const Row &row) { return row.ratio(plan_call); });
+    means("part of a plan", rows, false, [](const Row &row) { return row.ratio(plan_call); });
 #ifdef HAVE_LEMON
-    means("part of lemon from the ticket", rows, [](const Row &row) { return row.ratio(lemon_ticket); });
-    means("part of lemon from the arcs", rows, [](const Row &row) { return row.ratio(lemon_arcs); });
-    means("network of lemon from the arcs", rows, [](const Row &row) { return row.network_ratio(lemon_arcs); });
-    means("network of lemon on its graph", rows, [](const Row &row) { return row.network_ratio(lemon_graph); });
+    means("part of lemon from the ticket", rows, true, [](const Row &row) { return row.ratio(lemon_ticket); });
+    means("part of lemon from the arcs", rows, true, [](const Row &row) { return row.ratio(lemon_arcs); });
+    means("network of lemon from the arcs", rows, true, [](const Row &row) { return row.network_ratio(lemon_arcs); });
+    means("network of lemon on its graph", rows, true, [](const Row &row) { return row.network_ratio(lemon_graph); });
 #endif
     std::printf("every part has the windows of the plan and of the peers: yes\n");
     return 0;

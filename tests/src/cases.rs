@@ -56,6 +56,10 @@ pub enum Kind {
     MendingTiny,
     /// Damaged and cut tickets mended, and outputs of other lengths.
     MendingBytes,
+    /// Both plans of tickets of one device, of two and of all, and commitments on them.
+    Weights,
+    /// The same on tiny tickets, expected answers by exhaustive search.
+    WeightsTiny,
     /// All five parts of tickets of all sizes, of any number for a device, and of damaged tickets.
     Parts,
     /// Parts of tiny tickets, expected answers by exhaustive search, which pairs of opens and closes have to give, too.
@@ -66,10 +70,6 @@ pub enum Kind {
     PartsSeparate,
     /// Parts of tickets whose events are one device's: that device's is the plan, most of them with 40 events and 256 rules.
     PartsOneDevice,
-    /// Both plans of tickets of one device, of two and of all, and commitments on them.
-    Weights,
-    /// The same on tiny tickets, expected answers by exhaustive search.
-    WeightsTiny,
 }
 
 /// What the calls of a kind are about: reasons, mending and parts have kinds of their own.
