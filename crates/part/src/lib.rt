@@ -18,7 +18,7 @@ use ticket::Ticket;
 // A part holds its count, of two bytes, and 40 events, of nine bytes each.
 pub const PART_BYTES: usize = 362;
 
-// Store the events of a part at `at`, each with its window.
+// Store the events of a part after its count, each with its window.
 fn put_events<'a>(
     out: &mut [u8],
     n: usize,

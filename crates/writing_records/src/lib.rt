@@ -69,7 +69,7 @@ fn test_record(r: Record) -> u32
     test_counts(r)
 }
 
-// A window with its flag, at `at`.
+// A window after its flag, or in a part after its event's number, at `at`.
 pub fn put_window(out: &mut [u8], at: usize, flag: u8, opens: u32, closes: u32)
     requires { ⌜ at + 9 ≤ length (now out) ⌝ }
     ensures { λ _. ⌜ now (out .exit) ≡ sets (now (out .entry)) at (windowBytes flag opens closes) ⌝ }
