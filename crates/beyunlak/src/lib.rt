@@ -23,8 +23,8 @@ fn scratch() -> [u32; 1824]
 // The record of the plan of a ticket, at the start of `out`. The answer is 0, or the number of the first cause to refuse.
 #[no_mangle]
 pub extern "C" fn beyunlak_plan(ticket: &[u8], out: &mut [u8]) -> u32
-    ensures { λ r. ⌜ r ≡ planning (now (ticket .entry)) (now (out .entry)) (replicate 8192 0) .number ⌝ }
-    ensures { λ _. ⌜ now (out .exit) ≡ planning (now (ticket .entry)) (now (out .entry)) (replicate 8192 0) .out ⌝ }
+    ensures { λ r. ⌜ r ≡ planning (now (ticket .entry)) (now (out .entry)) (replicate 2400 0) .number ⌝ }
+    ensures { λ _. ⌜ now (out .exit) ≡ planning (now (ticket .entry)) (now (out .entry)) (replicate 2400 0) .out ⌝ }
 {
     if out.len() < RECORD_BYTES {
         return 10;
@@ -37,8 +37,8 @@ pub extern "C" fn beyunlak_plan(ticket: &[u8], out: &mut [u8]) -> u32
 // The record of the latest plan of a ticket, at the start of `out`. The answer is 0, or the number of the first cause to refuse.
 #[no_mangle]
 pub extern "C" fn beyunlak_plan_latest(ticket: &[u8], out: &mut [u8]) -> u32
-    ensures { λ r. ⌜ r ≡ planningLatest (now (ticket .entry)) (now (out .entry)) (replicate 8192 0) .number ⌝ }
-    ensures { λ _. ⌜ now (out .exit) ≡ planningLatest (now (ticket .entry)) (now (out .entry)) (replicate 8192 0) .out ⌝ }
+    ensures { λ r. ⌜ r ≡ planningLatest (now (ticket .entry)) (now (out .entry)) (replicate 2400 0) .number ⌝ }
+    ensures { λ _. ⌜ now (out .exit) ≡ planningLatest (now (ticket .entry)) (now (out .entry)) (replicate 2400 0) .out ⌝ }
 {
     if out.len() < RECORD_BYTES {
         return 10;
@@ -57,8 +57,8 @@ pub extern "C" fn beyunlak_commit(
     close: u32,
     out: &mut [u8],
 ) -> u32
-    ensures { λ r. ⌜ r ≡ committing (now («record» .entry)) event «open» close (now (out .entry)) (replicate 8192 0) .number ⌝ }
-    ensures { λ _. ⌜ now (out .exit) ≡ committing (now («record» .entry)) event «open» close (now (out .entry)) (replicate 8192 0) .out ⌝ }
+    ensures { λ r. ⌜ r ≡ committing (now («record» .entry)) event «open» close (now (out .entry)) (replicate 2400 0) .number ⌝ }
+    ensures { λ _. ⌜ now (out .exit) ≡ committing (now («record» .entry)) event «open» close (now (out .entry)) (replicate 2400 0) .out ⌝ }
 {
     if out.len() < RECORD_BYTES {
         return 10;

@@ -20,11 +20,11 @@ use ticket::Ticket;
 const EVENTS: u32 = Ticket::EVENTS as u32;
 
 // The least numbers of scratch, and how many are cleared.
-const SCRATCH: usize = 8192;
+const SCRATCH: usize = 2400;
 
 // Whether an output or scratch of these lengths is too short.
 pub fn short(out: usize, scratch: usize) -> bool
-    ensures { λ r. ⌜ r ≡ not (leb 1958 out && leb 8192 scratch) ⌝ }
+    ensures { λ r. ⌜ r ≡ not (leb 1958 out && leb 2400 scratch) ⌝ }
 {
     if out < ticket::RECORD_BYTES {
         return true;
@@ -32,9 +32,9 @@ pub fn short(out: usize, scratch: usize) -> bool
     scratch < SCRATCH
 }
 
-// Put 0 into the first 8,192 numbers.
+// Put 0 into the first 2,400 numbers.
 pub fn clear(scratch: &mut [u32])
-    requires { ⌜ 8192 ≤ length (now scratch) ⌝ }
+    requires { ⌜ 2400 ≤ length (now scratch) ⌝ }
     ensures { λ _. ⌜ now (scratch .exit) ≡ cleared (now (scratch .entry)) ⌝ }
 {
     let mut i = 0;

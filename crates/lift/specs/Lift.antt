@@ -21,7 +21,7 @@ use Rattle.network.specs.Grow.{Impossible}
 pub data Visited (net pot pot' queue queue' : List ℕ) (e v b t r : ℕ) : Type 0 where
   met : r ≡ t → pot' ≡ pot → queue' ≡ queue → at pot v + 1000000 ≤ at pot (tailOf net e) + costOf net e → Visited net pot pot' queue queue' e v b t r
   raised : r ≡ t + 1 → pot' ≡ set pot (tailOf net e) (at pot v + 1000000 - costOf net e) → queue' ≡ set queue t (tailOf net e) → (tailOf net e ≡ b → ⊥)
-      → at pot (tailOf net e) + costOf net e < at pot v + 1000000 → t < 512 → at pot v + 1000000 ≤ 4000000 + costOf net e → Visited net pot pot' queue queue' e v b t r
+      → at pot (tailOf net e) + costOf net e < at pot v + 1000000 → t < 400 → at pot v + 1000000 ≤ 4000000 + costOf net e → Visited net pot pot' queue queue' e v b t r
   ring : r ≡ 600 → tailOf net e ≡ b → at pot (tailOf net e) + costOf net e < at pot v + 1000000 → Visited net pot pot' queue queue' e v b t r
   given-up : r ≡ 601 → Visited net pot pot' queue queue' e v b t r
 
@@ -29,8 +29,8 @@ pub data Visited (net pot pot' queue queue' : List ℕ) (e v b t r : ℕ) : Type
 pub record Ready (nodes : ℕ) (pot queue : List ℕ) (t : ℕ) : Type 0 where
   pub long : length pot ≡ 81
   pub small : (v : ℕ) → v < nodes → at pot v ≤ 4000000
-  pub size : length queue ≡ 512
-  pub count : t ≤ 512
+  pub size : length queue ≡ 400
+  pub count : t ≤ 400
   pub queued : (k : ℕ) → k < t → at queue k < nodes
 
 abbrev pub MeetsAll : List ℕ → ℕ → (ℕ → ℕ) → Type 0
@@ -64,18 +64,18 @@ NoEdge e = ⊥
 abbrev pub Blocked : List ℕ → ℕ → List ℕ → (a b top : ℕ) → Type 0
 Blocked net m old a b top = (q : ℕ → ℕ) → MeetsAll net m q → q a + at old b < q b + top
 
--- edges are visited, after which C' are left of C; above 512 the answer ends the lift
+-- edges are visited, after which C' are left of C; above 400 the answer ends the lift
 pub record Passes (net : List ℕ) (m nodes b : ℕ) (pot queue : List ℕ) (t : ℕ) (pot' queue' : List ℕ) (r : ℕ) (C C' : ℕ → Type 0) : Type 0 where
-  pub ready : r ≤ 512 → Ready nodes pot' queue' r × (t ≤ r)
-  pub lifts : r ≤ 512 → (old : List ℕ) (a top : ℕ) → Lifting net m nodes old a b top pot → Lifting net m nodes old a b top pot'
-  pub edges : r ≤ 512 → (s : ℕ) → s ≤ t → Edges net m pot queue s t C → Edges net m pot' queue' s r C'
+  pub ready : r ≤ 400 → Ready nodes pot' queue' r × (t ≤ r)
+  pub lifts : r ≤ 400 → (old : List ℕ) (a top : ℕ) → Lifting net m nodes old a b top pot → Lifting net m nodes old a b top pot'
+  pub edges : r ≤ 400 → (s : ℕ) → s ≤ t → Edges net m pot queue s t C → Edges net m pot' queue' s r C'
   pub blocks : r ≡ 600 → (old : List ℕ) (a top : ℕ) → Lifting net m nodes old a b top pot → Blocked net m old a b top
 
 -- all that follows from the first node in the queue is raised
 pub record Spread (net : List ℕ) (m nodes b : ℕ) (pot queue pot' : List ℕ) (r : ℕ) : Type 0 where
-  pub long : r ≤ 512 → length pot' ≡ 81
-  pub lifts : r ≤ 512 → (old : List ℕ) (a top : ℕ) → Lifting net m nodes old a b top pot → Lifting net m nodes old a b top pot'
-  pub demands : r ≤ 512 → Edges net m pot queue 0 1 NoEdge → (e : ℕ) → e < m → Demand net pot' e
+  pub long : r ≤ 400 → length pot' ≡ 81
+  pub lifts : r ≤ 400 → (old : List ℕ) (a top : ℕ) → Lifting net m nodes old a b top pot → Lifting net m nodes old a b top pot'
+  pub demands : r ≤ 400 → Edges net m pot queue 0 1 NoEdge → (e : ℕ) → e < m → Demand net pot' e
   pub blocks : r ≡ 600 → (old : List ℕ) (a top : ℕ) → Lifting net m nodes old a b top pot → Blocked net m old a b top
 
 -- all nodes are lowered by the potential of the origin
@@ -103,7 +103,7 @@ module _ {net : List ℕ} {m nodes : ℕ} (N : Network net m nodes) {pot queue :
   y = at pot v + 1000000 - costOf net e
 
   -- what it asks
-  pub visit-asks : ((4 * e + 3 < length net) × (u < 81) × (v < 81) × (costOf net e ≤ 2000000)) × ((at pot u ≤ 4000000) × (at pot v ≤ 4000000) × (t ≤ 512))
+  pub visit-asks : ((4 * e + 3 < length net) × (u < 81) × (v < 81) × (costOf net e ≤ 2000000)) × ((at pot u ≤ 4000000) × (at pot v ≤ 4000000) × (t ≤ 400))
   visit-asks = (
     (omega (arith, N .size, le), omega (arith, N .tails e le, N .few), omega (arith, N .few, lv), N .costs e le),
     (R .small u (N .tails e le), R .small v lv, R .count),
@@ -146,7 +146,7 @@ module _ {net : List ℕ} {m nodes : ℕ} (N : Network net m nodes) {pot queue :
           }
 
     -- the tail waits in the queue
-    tail-ready : t < 512 → at pot v + 1000000 ≤ 4000000 + costOf net e → Ready nodes (set pot u y) (set queue t u) (t + 1)
+    tail-ready : t < 400 → at pot v + 1000000 ≤ 4000000 + costOf net e → Ready nodes (set pot u y) (set queue t u) (t + 1)
     tail-ready lt high =
         record {
           long = simp length-set (R .long);
@@ -166,13 +166,13 @@ module _ {net : List ℕ} {m nodes : ℕ} (N : Network net m nodes) {pot queue :
           (λ s. rw (there (headOf net f) n) (omega (arith, d, x, ap (at (set pot u y)) s, here, ap (at pot) s)))
           (λ o. rw (there (headOf net f) n, there (tailOf net f) o) d)
 
-      by-head : (f : ℕ) → t < 512 → ((headOf net f ≡ u → ⊥) → Edge net (set pot u y) (set queue t u) s (t + 1) C' f) → Edge net (set pot u y) (set queue t u) s (t + 1) C' f
+      by-head : (f : ℕ) → t < 400 → ((headOf net f ≡ u → ⊥) → Edge net (set pot u y) (set queue t u) s (t + 1) C' f) → Edge net (set pot u y) (set queue t u) s (t + 1) C' f
       by-head f lt other =
           by-cases (ℕ-discrete (headOf net f) u)
           (λ q. waits t ls (omega arith) (getD-set-same queue t u 0 (omega (arith, R .size, lt)) ∙ sym q))
           other
 
-      tail-edges : t < 512 → Edges net m pot queue s t C → Edges net m (set pot u y) (set queue t u) s (t + 1) C'
+      tail-edges : t < 400 → Edges net m pot queue s t C → Edges net m (set pot u y) (set queue t u) s (t + 1) C'
       tail-edges lt E f lf = go (E f lf)
         where
           go : Edge net pot queue s t C f → Edge net (set pot u y) (set queue t u) s (t + 1) C' f
@@ -232,7 +232,7 @@ passes-none {net} {m} {pot = pot} {queue = queue} {t = t} {C = C} {C' = C'} R co
     go s f lf (comes c) = comes (cover f lf c)
 
 pub passes-then : {net : List ℕ} {m nodes b : ℕ} {pot queue : List ℕ} {t : ℕ} {pot₁ queue₁ : List ℕ} {t₁ : ℕ} {pot₂ queue₂ : List ℕ} {r : ℕ} {C C₁ C₂ : ℕ → Type 0}
-    → Passes net m nodes b pot queue t pot₁ queue₁ t₁ C C₁ → t₁ ≤ 512 → Passes net m nodes b pot₁ queue₁ t₁ pot₂ queue₂ r C₁ C₂
+    → Passes net m nodes b pot queue t pot₁ queue₁ t₁ C C₁ → t₁ ≤ 400 → Passes net m nodes b pot₁ queue₁ t₁ pot₂ queue₂ r C₁ C₂
     → Passes net m nodes b pot queue t pot₂ queue₂ r C C₂
 passes-then P l Q = record {
   ready = λ w. (Q .ready w .0, omega (arith, P .ready l .1, Q .ready w .1));
@@ -243,7 +243,7 @@ passes-then P l Q = record {
 
 -- an answer that ends the lift leaves whatever edges
 pub passes-ends : {net : List ℕ} {m nodes b : ℕ} {pot queue : List ℕ} {t : ℕ} {pot' queue' : List ℕ} {r : ℕ} {C C₁ C₂ : ℕ → Type 0}
-    → Passes net m nodes b pot queue t pot' queue' r C C₁ → 512 < r → Passes net m nodes b pot queue t pot' queue' r C C₂
+    → Passes net m nodes b pot queue t pot' queue' r C C₁ → 400 < r → Passes net m nodes b pot queue t pot' queue' r C C₂
 passes-ends P w = record {
   ready = λ l. absurd (omega (arith, l, w));
   lifts = λ l. absurd (omega (arith, l, w));
@@ -346,7 +346,7 @@ going-start R = record { ready = R; place = omega arith; lifts = λ old a top L.
 
 module _ {net : List ℕ} {m nodes b : ℕ} {pot queue pot₁ queue₁ : List ℕ} {s t : ℕ} (G : Going net m nodes b pot queue pot₁ queue₁ s t) where
   module _ (l : s < t) {pot₂ queue₂ : List ℕ} {r : ℕ} (P : Passes net m nodes b pot₁ queue₁ t pot₂ queue₂ r (AtNode net (at queue₁ s)) NoEdge) where
-    pub going-next : r ≤ 512 → Going net m nodes b pot queue pot₂ queue₂ (s + 1) r
+    pub going-next : r ≤ 400 → Going net m nodes b pot queue pot₂ queue₂ (s + 1) r
     going-next w = record {
       ready = P .ready w .0;
       place = omega (arith, l, P .ready w .1);
@@ -354,7 +354,7 @@ module _ {net : List ℕ} {m nodes b : ℕ} {pot queue pot₁ queue₁ : List �
       edges = λ E. P .edges w (s + 1) (omega (arith, l)) (edges-next (G .edges E));
     }
 
-    pub going-ends : 512 < r → Spread net m nodes b pot queue pot₂ r
+    pub going-ends : 400 < r → Spread net m nodes b pot queue pot₂ r
     going-ends w = record {
       long = λ z. absurd (omega (arith, w, z));
       lifts = λ z. absurd (omega (arith, w, z));
@@ -383,7 +383,7 @@ module _ {net : List ℕ} {m nodes : ℕ} (N : Network net m nodes) {pot : List 
   others : (v : ℕ) → (v ≡ a → ⊥) → at (set pot a top) v ≡ at pot v
   others v n = getD-set-other pot a v top 0 n
 
-  pub start-ready : (queue : List ℕ) → length queue ≡ 512 → at queue 0 ≡ a → Ready nodes (set pot a top) queue 1
+  pub start-ready : (queue : List ℕ) → length queue ≡ 400 → at queue 0 ≡ a → Ready nodes (set pot a top) queue 1
   start-ready queue long q = record {
     long = simp length-set (P .long);
     small = λ v lv. by-cases (ℕ-discrete v a) (λ s. rw (s, first) (omega (arith, bound b lb))) (λ n. rw (others v n) (omega (arith, bound v lv)));
@@ -412,11 +412,11 @@ module _ {net : List ℕ} {m nodes : ℕ} (N : Network net m nodes) {pot : List 
       (λ o. rw (others (headOf net e) n, others (tailOf net e) o) (P .feasible e le))))
 
   module _ {queue pot' : List ℕ} {r : ℕ} (q : at queue 0 ≡ a) (S : Spread net m nodes b (set pot a top) queue pot' r) where
-    spread-lifting : r ≤ 512 → Lifting net m nodes pot a b top pot'
+    spread-lifting : r ≤ 400 → Lifting net m nodes pot a b top pot'
     spread-lifting w = S .lifts w pot a top start-lifting
 
     -- the box of a node keeps it above the origin
-    pub spread-low : r ≤ 512 → (v : ℕ) → v < nodes → at pot' 0 ≤ at pot' v
+    pub spread-low : r ≤ 400 → (v : ℕ) → v < nodes → at pot' 0 ≤ at pot' v
     spread-low w v lv = by-cases (ℕ-discrete v 0)
         (λ z. rw z (omega arith))
         (λ n.
@@ -424,7 +424,7 @@ module _ {net : List ℕ} {m nodes : ℕ} (N : Network net m nodes) {pot : List 
         let d = N .down v lv p in
         omega (arith, rw (d .0, d .1) at (S .demands w (start-edges queue q) (2 * v - 2) (omega (arith, N .links v lv p))), d .2))
 
-    pub lift-held : r ≤ 512 → {pot'' : List ℕ} → Shifted pot' pot'' nodes → Lifts net m nodes pot pot'' a b c 0
+    pub lift-held : r ≤ 400 → {pot'' : List ℕ} → Shifted pot' pot'' nodes → Lifts net m nodes pot pot'' a b c 0
     lift-held w {pot''} T = record {
       range = omega arith;
       long = λ z. T .long ∙ S .long w;

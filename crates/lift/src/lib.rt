@@ -11,7 +11,7 @@ ghost use Rattle.lift.specs.Lift.{Visited, Ready, Passes, AtNode, NoEdge
 use network::BIAS;
 
 // How often nodes may be raised before a lift is given up.
-const QUEUE: usize = 512;
+const QUEUE: usize = 400;
 
 // How high a node may be raised.
 const HIGH: u32 = 4_000_000;
@@ -25,14 +25,14 @@ const GIVEN_UP: usize = 601;
 fn visit(
     net: &[u32],
     pot: &mut [u32; 81],
-    queue: &mut [u8; 512],
+    queue: &mut [u8; 400],
     e: usize,
     v: usize,
     b: usize,
     t: usize,
 ) -> usize
     requires { ⌜ (4 * e + 3 < length (now net)) × (tailOf (now net) e < 81) × (v < 81) × (costOf (now net) e ≤ 2000000) ⌝ }
-    requires { ⌜ (at (now pot) (tailOf (now net) e) ≤ 4000000) × (at (now pot) v ≤ 4000000) × (t ≤ 512) ⌝ }
+    requires { ⌜ (at (now pot) (tailOf (now net) e) ≤ 4000000) × (at (now pot) v ≤ 4000000) × (t ≤ 400) ⌝ }
     ensures { λ r. ⌜ Visited (now (net .entry)) (now (pot .entry)) (now (pot .exit)) (now (queue .entry)) (now (queue .exit)) e v b t r ⌝ }
 {
     let u = net[4 * e] as usize;
@@ -61,7 +61,7 @@ fn visit_origin(
     m: usize,
     nodes: usize,
     pot: &mut [u32; 81],
-    queue: &mut [u8; 512],
+    queue: &mut [u8; 400],
     b: usize,
     t: usize,
 ) -> usize
@@ -86,7 +86,7 @@ fn visit_box(
     m: usize,
     nodes: usize,
     pot: &mut [u32; 81],
-    queue: &mut [u8; 512],
+    queue: &mut [u8; 400],
     v: usize,
     b: usize,
     t: usize,
@@ -107,7 +107,7 @@ fn visit_list(
     nodes: usize,
     heads: &[u32],
     pot: &mut [u32; 81],
-    queue: &mut [u8; 512],
+    queue: &mut [u8; 400],
     v: usize,
     b: usize,
     t: usize,
@@ -137,7 +137,7 @@ fn visit_node(
     nodes: usize,
     heads: &[u32],
     pot: &mut [u32; 81],
-    queue: &mut [u8; 512],
+    queue: &mut [u8; 400],
     v: usize,
     b: usize,
     t: usize,
@@ -160,7 +160,7 @@ fn spread(
     nodes: usize,
     heads: &[u32],
     pot: &mut [u32; 81],
-    queue: &mut [u8; 512],
+    queue: &mut [u8; 400],
     b: usize,
 ) -> usize
     requires { ⌜ Network (now net) m nodes × Ready nodes (now pot) (now queue) 1 ⌝ }
@@ -198,11 +198,11 @@ fn shift(pot: &mut [u32; 81], nodes: usize)
 }
 
 // A queue with node a in front.
-fn queue_of(a: usize) -> [u8; 512]
+fn queue_of(a: usize) -> [u8; 400]
     requires { ⌜ a < 81 ⌝ }
-    ensures { λ r. ⌜ (length r ≡ 512) × (at r 0 ≡ a) ⌝ }
+    ensures { λ r. ⌜ (length r ≡ 400) × (at r 0 ≡ a) ⌝ }
 {
-    let mut queue = [0u8; 512];
+    let mut queue = [0u8; 400];
     queue[0] = a as u8;
     queue
 }

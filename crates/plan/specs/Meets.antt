@@ -1,4 +1,4 @@
--- What the code's inner functions leave, as far as it is settled before the scratch is cleared: the answer, the output, and the scratch past its first 8,192 numbers.
+-- What the code's inner functions leave, as far as it is settled before the scratch is cleared: the answer, the output, and the scratch past its first 2,400 numbers.
 -- The laws follow the code: a refusal, an accepted call, a reading, the two doors, and the same calls with scratch of their own.
 use mathlib.Core.Path.{_≡_, refl, sym, ap, subst, _∙_}
 use mathlib.Core.List.{List}
@@ -19,23 +19,24 @@ use Rattle.ticket.specs.Laws.{was-refused, was-got}
 use Rattle.ticket.specs.declared.ReadTicket.{ReadTicket}
 use Rattle.ticket.specs.declared.ReadRecord.{ReadRecord}
 use Rattle.causes.specs.Zeroed.{past, zeroed-rest}
-use Rattle.runs.specs.Calls.{Outcome, zeroed, cleared, withoutRoom, answered, afterReading, planning, planningLatest, committing}
+use Rattle.runs.specs.Calls.{Outcome, zeroed, withoutRoom, answered, afterReading, planning, planningLatest, committing}
 use Rattle.runs.specs.Calls.{enough-room, no-room-out, planning-short, planning-read, planningLatest-short, planningLatest-read, committing-short, committing-read}
+use Rattle.runs.specs.Scratch.{read-alike, read-clears}
 use Rattle.ticket.specs.Content.{read-got, read-content}
 use Rattle.causes.specs.Structs.{state-of, Canonical, canonical-read}
 use Rattle.plan.specs.Returned.{returned}
 use Rattle.plan.specs.declared.Answer.{Answer}
 
--- a is what the outcome returns, out its output; the scratch is as `before` past its first 8,192 numbers
+-- a is what the outcome returns, out its output; the scratch is as `before` past its first 2,400 numbers
 pub record Meets (o : Outcome) (before : List ℕ) (a : Answer) (out scratch : List ℕ) : Type 0 where
   pub answer-is : a ≡ returned o
   pub output-is : out ≡ o .out
-  pub rest-is : past 8192 scratch ≡ past 8192 before
+  pub rest-is : past 2400 scratch ≡ past 2400 before
 
 -- ---- decisions
 
 module _ {d : Decision} (out : List ℕ) {scratch : List ℕ} where
-  pub meets-refused : {r : ℕ} {a : Answer} {scratch′ : List ℕ} → d ≡ refused r → a ≡ record { number = r; length = 0; total = 0 } → past 8192 scratch′ ≡ past 8192 scratch
+  pub meets-refused : {r : ℕ} {a : Answer} {scratch′ : List ℕ} → d ≡ refused r → a ≡ record { number = r; length = 0; total = 0 } → past 2400 scratch′ ≡ past 2400 scratch
       → Meets (answered out scratch d) scratch a out scratch′
   meets-refused {r} e q h = record {
     answer-is = q ∙ ap (λ x. returned (answered out scratch x)) (sym e);
@@ -45,7 +46,7 @@ module _ {d : Decision} (out : List ℕ) {scratch : List ℕ} where
 
   pub meets-accepted : {s : State} {a : Answer} {out′ scratch′ : List ℕ} → d ≡ accepted s
       → a ≡ record { number = 0; length = length (writeState s); total = total (s .ticket) (s .windows) } → out′ ≡ over (writeState s) out
-      → past 8192 scratch′ ≡ past 8192 scratch
+      → past 2400 scratch′ ≡ past 2400 scratch
       → Meets (answered out scratch d) scratch a out′ scratch′
   meets-accepted e q o h = record {
     answer-is = q ∙ ap (λ x. returned (answered out scratch x)) (sym e);
@@ -113,35 +114,18 @@ Whole o a out scratch = (a ≡ returned o) × ((out ≡ o .out) × (scratch ≡ 
 pub whole-short : (out scratch : List ℕ) {whole : Outcome} {a : Answer} → whole ≡ withoutRoom out scratch → a ≡ record { number = 10; length = 0; total = 0 } → Whole whole a out scratch
 whole-short out scratch e q = (q ∙ ap returned (sym e), (ap (λ (o : Outcome). o .out) (sym e), ap (λ (o : Outcome). o .scratch) (sym e)))
 
-clears : (out scratch : List ℕ) (d : Decision) → answered out scratch d .scratch ≡ cleared scratch
-clears out scratch (Decision.refused r) = refl
-clears out scratch (Decision.accepted s) = refl
-
-reading-clears : {A : Type 0} (out scratch : List ℕ) (decide : A → Decision) (o : Out A) → afterReading out scratch decide o .scratch ≡ cleared scratch
-reading-clears out scratch decide (Out.got x rest) = clears out scratch (decide x)
-reading-clears out scratch decide (Out.refused k) = refl
-
 pub whole-read : {A : Type 0} (out scratch : List ℕ) (decide : A → Decision) (o : Out A) {whole : Outcome} {a : Answer} {out′ scratch′ scratch″ : List ℕ}
     → whole ≡ afterReading out scratch decide o → Meets (afterReading out scratch decide o) scratch a out′ scratch′
-    → scratch″ ≡ zeroed 8192 scratch′ → Whole whole a out′ scratch″
+    → scratch″ ≡ zeroed 2400 scratch′ → Whole whole a out′ scratch″
 whole-read out scratch decide o {scratch′ = scratch′} e m c = (
   m .answer-is ∙ ap returned (sym e),
   (
     m .output-is ∙ ap (λ (x : Outcome). x .out) (sym e),
-    c ∙ zeroed-rest 8192 scratch′ scratch (m .rest-is) ∙ sym (reading-clears out scratch decide o) ∙ ap (λ (x : Outcome). x .scratch) (sym e),
+    c ∙ zeroed-rest 2400 scratch′ scratch (m .rest-is) ∙ sym (read-clears out scratch decide o) ∙ ap (λ (x : Outcome). x .scratch) (sym e),
   ),
 )
 
 -- ---- a call with scratch of its own: what is answered and written does not depend on the scratch
-
-same-decided : (out s z : List ℕ) (d : Decision) → (answered out s d .number ≡ answered out z d .number) × (answered out s d .out ≡ answered out z d .out)
-same-decided out s z (Decision.refused r) = (refl, refl)
-same-decided out s z (Decision.accepted x) = (refl, refl)
-
-same-read : {A : Type 0} (out s z : List ℕ) (decide : A → Decision) (o : Out A)
-    → (afterReading out s decide o .number ≡ afterReading out z decide o .number) × (afterReading out s decide o .out ≡ afterReading out z decide o .out)
-same-read out s z decide (Out.got x rest) = same-decided out s z (decide x)
-same-read out s z decide (Out.refused k) = (refl, refl)
 
 -- the number and the output, as of scratch z
 abbrev pub Told : Outcome → ℕ → List ℕ → Type 0
@@ -150,8 +134,8 @@ Told o number out = (number ≡ o .number) × (out ≡ o .out)
 told-read : {A : Type 0} (out s z : List ℕ) (decide : A → Decision) (o : Out A) {whole : Outcome} {a : Answer} {out′ s′ : List ℕ}
     → whole ≡ afterReading out z decide o → Meets (afterReading out s decide o) s a out′ s′ → Told whole (a .number) out′
 told-read out s z decide o e m = (
-  ap (λ (x : Answer). x .number) (m .answer-is) ∙ same-read out s z decide o .0 ∙ ap (λ (x : Outcome). x .number) (sym e),
-  m .output-is ∙ same-read out s z decide o .1 ∙ ap (λ (x : Outcome). x .out) (sym e),
+  ap (λ (x : Answer). x .number) (m .answer-is) ∙ read-alike out s z decide o .number ∙ ap (λ (x : Outcome). x .number) (sym e),
+  m .output-is ∙ read-alike out s z decide o .out ∙ ap (λ (x : Outcome). x .out) (sym e),
 )
 
 told-short : (out z : List ℕ) {whole : Outcome} → whole ≡ withoutRoom out z → Told whole 10 out
@@ -167,7 +151,7 @@ module _ (out z : List ℕ) where
   pub committed-short : (bytes : List ℕ) (event opens closes : ℕ) → length out < 1958 → Told (committing bytes event opens closes out z) 10 out
   committed-short bytes event opens closes l = told-short out z (committing-short bytes event opens closes out z (no-room-out out z l))
 
-  module _ (l : 1958 ≤ length out) (m : 8192 ≤ length z) {s : List ℕ} {a : Answer} {out′ s′ : List ℕ} where
+  module _ (l : 1958 ≤ length out) (m : 2400 ≤ length z) {s : List ℕ} {a : Answer} {out′ s′ : List ℕ} where
     pub planned-told : (ticket : List ℕ) → Meets (afterReading out s plan (wholly readTicket ticket)) s a out′ s′ → Told (planning ticket out z) (a .number) out′
     planned-told ticket h = told-read out s z plan (wholly readTicket ticket) (planning-read ticket out z (enough-room out z l m)) h
 

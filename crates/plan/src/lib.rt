@@ -136,7 +136,7 @@ fn commit_event(
     requires { ⌜ Canonical r × (cause (stateOf r) (asking event opens closes) ≡ 0) ⌝ }
     requires { ⌜ 1824 ≤ length (now scratch) ⌝ }
     ensures { λ q. ⌜ Canonical q × (commit (stateOf r) (asking event opens closes) ≡ accepted (stateOf q)) ⌝ }
-    ensures { λ q. ⌜ past 8192 (now (scratch .exit)) ≡ past 8192 (now (scratch .entry)) ⌝ }
+    ensures { λ q. ⌜ past 2400 (now (scratch .exit)) ≡ past 2400 (now (scratch .entry)) ⌝ }
 {
     let t = r.ticket;
     let mut flags = r.flags;

@@ -24,7 +24,7 @@ pub record Outcome : Type 0 where
 
 -- the lent output and scratch are long enough
 unfoldable pub room : List ℕ → List ℕ → Bool
-room out scratch = leb 1958 (length out) && leb 8192 (length scratch)
+room out scratch = leb 1958 (length out) && leb 2400 (length scratch)
 
 -- the list with 0 for its first n numbers, and the rest as it was
 unfoldable pub zeroed : ℕ → List ℕ → List ℕ
@@ -32,7 +32,7 @@ zeroed n xs = replicate n 0 ++ drop n xs
 
 -- the scratch after every answer but 10
 abbrev pub cleared : List ℕ → List ℕ
-cleared scratch = zeroed 8192 scratch
+cleared scratch = zeroed 2400 scratch
 
 -- 10 leaves output and scratch as they were
 abbrev pub withoutRoom : List ℕ → List ℕ → Outcome
@@ -92,17 +92,17 @@ committing bytes event opens closes out scratch =
 
 -- ---- the same by cases
 
-pub enough-room : (out scratch : List ℕ) → 1958 ≤ length out → 8192 ≤ length scratch → room out scratch ≡ true
+pub enough-room : (out scratch : List ℕ) → 1958 ≤ length out → 2400 ≤ length scratch → room out scratch ≡ true
 unfolding room
-enough-room out scratch l m = rw (le-leb 1958 (length out) l, le-leb 8192 (length scratch) m)
+enough-room out scratch l m = rw (le-leb 1958 (length out) l, le-leb 2400 (length scratch) m)
 
 pub no-room-out : (out scratch : List ℕ) → length out < 1958 → room out scratch ≡ false
 unfolding room
 no-room-out out scratch l = rw (lt-leb 1958 (length out) l)
 
-pub no-room-scratch : (out scratch : List ℕ) → 1958 ≤ length out → length scratch < 8192 → room out scratch ≡ false
+pub no-room-scratch : (out scratch : List ℕ) → 1958 ≤ length out → length scratch < 2400 → room out scratch ≡ false
 unfolding room
-no-room-scratch out scratch l m = rw (le-leb 1958 (length out) l, lt-leb 8192 (length scratch) m)
+no-room-scratch out scratch l m = rw (le-leb 1958 (length out) l, lt-leb 2400 (length scratch) m)
 
 module _ (ticket out scratch : List ℕ) where
   pub planning-short : room out scratch ≡ false → planning ticket out scratch ≡ withoutRoom out scratch

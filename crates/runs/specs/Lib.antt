@@ -12,6 +12,8 @@
 --   FromRecord  length and total follow from the record (`plan-tells`, `commit-tells`); the plan of a ticket with no events (`plan-nothing`)
 --   Latest      `latest-run`, of every latest plan and every list on its record; it returns and refuses as planning does (`latest-as-planning`,
 --               `latest-refusal`); length and total follow from its record (`latest-tells`). It answers 02's change 1.
+--   Scratch     10 exactly for short output or scratch (`plan-ten`, `latest-ten`, `commit-ten`); what is returned and written does not depend on the scratch
+--               (`plan-alike`, `latest-alike`, `commit-alike`), and what is left in it (`plan-leaves`, `latest-leaves`, `commit-leaves`). It answers 02's change 9.
 -- Examples shows the definitions at work: P1 to P10 of 01 as one table, the table of distances and P1's latest plan in it (`examples-hold`); P1's event 1
 -- narrowed again as another (`narrowings-hold`), the counts of its two devices as a third (`countings-hold`), P4 and P10 with other owners as a fourth
 -- (`weighings-hold`).
@@ -23,4 +25,5 @@ pub mod RunHolds
 pub mod Refusals
 pub mod FromRecord
 pub mod Latest
+pub mod Scratch
 pub mod Examples

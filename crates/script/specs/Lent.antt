@@ -34,9 +34,9 @@ holding bytes out = front (min (length bytes) (length out)) bytes out
 pub front-more : (bytes out : List ℕ) (n : ℕ) → n < length bytes → n < length out → set (front n bytes out) n (getD bytes n 0) ≡ front (n + 1) bytes out
 front-more bytes out n l k = rw add-one (simp zero-add at (paste-suc out 0 bytes n 0 (omega arith) l))
 
--- 01 "Network, table, plan": after every answer but 10 the first 8,192 scratch numbers are 0, the rest untouched; scratch is lent with 7 everywhere
+-- 01 "Network, table, plan": after every answer but 10 the first 2,400 scratch numbers are 0, the rest untouched; scratch is lent with 7 everywhere
 unfoldable pub leftAt : ℕ → ℕ → ℕ
-leftAt number i = cond (eqb number 10) 7 (cond (ltb i 8192) 0 7)
+leftAt number i = cond (eqb number 10) 7 (cond (ltb i 2400) 0 7)
 
 abbrev pub Cleared : ℕ → List ℕ → Type 0
 Cleared number scratch = (i : ℕ) → i < length scratch → getD scratch i 0 ≡ leftAt number i

@@ -43,14 +43,14 @@ pub fn written(bytes: &[u8], out: &[u8]) -> bool
     check::same(out, &right)
 }
 
-// What a number of scratch must be after a call: 10 leaves all as they were, others clear 8,192.
+// What a number of scratch must be after a call: 10 leaves all as they were, others clear 2,400.
 fn cleared(number: u32, i: usize) -> u32
     ensures { λ r. ⌜ r ≡ leftAt number i ⌝ }
 {
     if number == 10 {
         return 7;
     }
-    if i < 8192 { 0 } else { 7 }
+    if i < 2400 { 0 } else { 7 }
 }
 
 // Whether scratch holds what it must.

@@ -1,4 +1,4 @@
--- `beyunlak::beyunlak_commit` meets its contract: what `plan::commit_bytes` ensures, told as of 8,192 zeros. Assumes nothing.
+-- `beyunlak::beyunlak_commit` meets its contract: what `plan::commit_bytes` ensures, told as of 2,400 zeros. Assumes nothing.
 use Prim.Native.Nat.{ℕ}
 use mathlib.Core.Path.{sym}
 use native.Mathlib.Nat.{le-of-eq}
@@ -12,13 +12,13 @@ use Rattle.beyunlak.proofs.beyunlak_commit.Tie as tie
 returns : tie.Need-returns
 returns c =
     let entry : tie.Start = search needs in
-    committed-short (entry .args .out .now) (replicate 8192 0) (entry .args .record .now) (entry .args .event) (entry .args .open) (entry .args .close) (omega arith)
+    committed-short (entry .args .out .now) (replicate 2400 0) (entry .args .record .now) (entry .args .event) (entry .args .open) (entry .args .close) (omega arith)
 
 returns-2 : tie.Need-returns-2
 returns-2 c =
     let committed : tie.After-commit-bytes = search needs in
     let entry : tie.Start = search needs in
-    committed-told (entry .args .out .now) (replicate 8192 0) (omega arith) (le-of-eq (sym (length-replicate {A = ℕ} 8192 0))) (entry .args .record .now)
+    committed-told (entry .args .out .now) (replicate 2400 0) (omega arith) (le-of-eq (sym (length-replicate {A = ℕ} 2400 0))) (entry .args .record .now)
     (entry .args .event) (entry .args .open) (entry .args .close) (committed .commit-bytes .ensures)
 
 pub beyunlak-commit-spec : {M : Type 1} → statement M

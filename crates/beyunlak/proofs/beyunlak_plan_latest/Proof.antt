@@ -1,4 +1,4 @@
--- `beyunlak::beyunlak_plan_latest` meets its contract: what `plan::plan_bytes` ensures, told as of 8,192 zeros. Assumes nothing.
+-- `beyunlak::beyunlak_plan_latest` meets its contract: what `plan::plan_bytes` ensures, told as of 2,400 zeros. Assumes nothing.
 use Prim.Native.Nat.{ℕ}
 use mathlib.Core.Path.{sym}
 use native.Mathlib.Nat.{le-of-eq}
@@ -12,13 +12,13 @@ use Rattle.beyunlak.proofs.beyunlak_plan_latest.Tie as tie
 returns : tie.Need-returns
 returns c =
     let entry : tie.Start = search needs in
-    latest-short (entry .args .out .now) (replicate 8192 0) (entry .args .ticket .now) (omega arith)
+    latest-short (entry .args .out .now) (replicate 2400 0) (entry .args .ticket .now) (omega arith)
 
 returns-2 : tie.Need-returns-2
 returns-2 c =
     let planned : tie.After-plan-bytes = search needs in
     let entry : tie.Start = search needs in
-    latest-told (entry .args .out .now) (replicate 8192 0) (omega arith) (le-of-eq (sym (length-replicate {A = ℕ} 8192 0))) (entry .args .ticket .now)
+    latest-told (entry .args .out .now) (replicate 2400 0) (omega arith) (le-of-eq (sym (length-replicate {A = ℕ} 2400 0))) (entry .args .ticket .now)
     (planned .plan-bytes .ensures)
 
 pub beyunlak-plan-latest-spec : {M : Type 1} → statement M

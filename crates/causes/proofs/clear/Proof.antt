@@ -10,10 +10,10 @@ use Rattle.causes.proofs.clear.Statement.{statement}
 use Rattle.causes.proofs.clear.Tie as tie
 
 abbrev Inv-loop : tie.InvT-loop
-Inv-loop scratch₀ i₀ scratch i = (i ≤ 8192) × (8192 ≤ length scratch₀) × (scratch ≡ zeroed i scratch₀)
+Inv-loop scratch₀ i₀ scratch i = (i ≤ 2400) × (2400 ≤ length scratch₀) × (scratch ≡ zeroed i scratch₀)
 
 abbrev μ-loop : tie.MeasureT-loop
-μ-loop scratch₀ i₀ scratch i = 8192 - i
+μ-loop scratch₀ i₀ scratch i = 2400 - i
 
 loop-holds : tie.Need-loop-holds Inv-loop μ-loop
 loop-holds c = (omega arith, c .pre, zeroed-none _)

@@ -10,7 +10,7 @@ abbrev Inv-loop : tie.InvT-loop
 Inv-loop net m nodes heads pot₀ queue₀ b s₀ t₀ pot queue s t = Going net m nodes b pot₀ queue₀ pot queue s t
 
 abbrev μ-loop : tie.MeasureT-loop
-μ-loop net m nodes heads pot₀ queue₀ b s₀ t₀ pot queue s t = 512 - s
+μ-loop net m nodes heads pot₀ queue₀ b s₀ t₀ pot queue s t = 400 - s
 
 loop-holds : tie.Need-loop-holds Inv-loop μ-loop
 loop-holds c =

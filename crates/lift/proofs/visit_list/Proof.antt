@@ -12,7 +12,7 @@ use Rattle.lift.proofs.visit_list.Tie as tie
 
 abbrev Inv-loop : tie.InvT-loop
 Inv-loop net m nodes heads pot₀ queue₀ v b t base r₀ x₀ pot queue r x =
-    Unlisted net m (2 * nodes - 2) 1 v x × (r ≤ 512) × Passes net m nodes b pot₀ queue₀ t pot queue r (Listed net (2 * nodes - 2) 1 v) (ListedBelow net (2 * nodes - 2) v x)
+    Unlisted net m (2 * nodes - 2) 1 v x × (r ≤ 400) × Passes net m nodes b pot₀ queue₀ t pot queue r (Listed net (2 * nodes - 2) 1 v) (ListedBelow net (2 * nodes - 2) v x)
 
 abbrev μ-loop : tie.MeasureT-loop
 μ-loop net m nodes heads pot₀ queue₀ v b t base r₀ x₀ pot queue r x = x

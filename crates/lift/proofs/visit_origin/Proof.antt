@@ -8,7 +8,7 @@ use Rattle.lift.proofs.visit_origin.Tie as tie
 
 abbrev Inv-loop : tie.InvT-loop
 Inv-loop net m nodes pot₀ queue₀ b t r₀ u₀ pot queue r u =
-    (0 < u) × (u ≤ nodes) × (r ≤ 512) × Passes net m nodes b pot₀ queue₀ t pot queue r (AtNode net 0) (OriginFrom net u)
+    (0 < u) × (u ≤ nodes) × (r ≤ 400) × Passes net m nodes b pot₀ queue₀ t pot queue r (AtNode net 0) (OriginFrom net u)
 
 abbrev μ-loop : tie.MeasureT-loop
 μ-loop net m nodes pot₀ queue₀ b t r₀ u₀ pot queue r u = nodes - u

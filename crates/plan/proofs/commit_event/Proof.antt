@@ -50,7 +50,7 @@ returns c =
     let after-owner-of : tie.After-owner-of = search needs in (
       canonical-committed (entry .args .r) (entry .pre .0 .0) (entry .args .event) (entry .args .opens) (entry .args .closes) (entry .pre .0 .1)
           (after-commit-window .commit-window .ensures .0) (after-owner-of .owner-of .ensures),
-      past-part 8192 1824 (entry .args .scratch .now) (after-commit-window .commit-window .last .0) (omega arith)
+      past-part 2400 1824 (entry .args .scratch .now) (after-commit-window .commit-window .last .0) (omega arith)
           (after-commit-window .commit-window .ensures .1 ∙ length-take-le 1824 (entry .args .scratch .now) (omega (arith, entry .pre .1))),
     )
 

@@ -35,7 +35,7 @@ returns c =
     let entry : tie.Start = search needs in
     meets-refused (entry .args .out .now) (planned-none (after-plan-windows .plan-windows .ensures .0) (not-true _ (c .before .if1 .taken)))
     (c .refusal .ensures)
-    (past-part 8192 1824 (entry .args .scratch .now) (after-plan-windows .plan-windows .last .0) (omega arith)
+    (past-part 2400 1824 (entry .args .scratch .now) (after-plan-windows .plan-windows .last .0) (omega arith)
     (after-plan-windows .plan-windows .ensures .1 ∙ length-take-le 1824 (entry .args .scratch .now) (omega (arith, entry .pre .1))))
 
 write-out-requires : tie.Need-write-out-requires
@@ -58,7 +58,7 @@ returns-2 c =
     let entry : tie.Start = search needs in
     meets-accepted (entry .args .out .now) (planned-some (after-plan-windows .plan-windows .ensures .0) (not-false _ (accepted .if1 .left)))
     (after-write-out .write-out .ensures .0) (after-write-out .write-out .ensures .1)
-    (past-part 8192 1824 (entry .args .scratch .now) (after-plan-windows .plan-windows .last .0) (omega arith)
+    (past-part 2400 1824 (entry .args .scratch .now) (after-plan-windows .plan-windows .last .0) (omega arith)
     (after-plan-windows .plan-windows .ensures .1 ∙ length-take-le 1824 (entry .args .scratch .now) (omega (arith, entry .pre .1))))
 
 pub plan-ticket-spec : {M : Type 1} → statement M
