@@ -19,7 +19,7 @@ use Rattle.ticket.specs.Content.{Limits, in-events, in-rules, limits, read-refu
 use Rattle.ticket.specs.declared.ReadTicket.{ReadTicket}
 use Rattle.writing.specs.Stores.{sets-over, sets-then, sets-each}
 use Rattle.mending.specs.Selection.{mended, dropped}
-use Rattle.mending.specs.Laws.{counts, mended-valid}
+use Rattle.mending.specs.Laws.{selected-count, mended-valid}
 use Rattle.mending.specs.Mending.{writeNumbers, Outcome, refusing, accepting, afterReading, mending, mending-read}
 use Rattle.mending.specs.Mended.{length-numbers, numbers-fit}
 use Rattle.select.specs.declared.Mended.{Mended}
@@ -57,7 +57,7 @@ module _ (k : temporal.Ticket) (v : Valid k) (m : Mended) (e : content (m .ticke
   dropped-is = sym (length-firsts (m .dropped) (at (m .numbers))) ∙ ap length f
 
   pub dropped-most : m .dropped ≤ 256
-  dropped-most = omega (arith, dropped-is, counts k, v .rules-limit)
+  dropped-most = omega (arith, dropped-is, selected-count k, v .rules-limit)
 
   pub mended-written : (out list : List ℕ) {out′ list′ : List ℕ} → 1584 ≤ length out → 514 ≤ length list
       → out′ ≡ sets out 0 (writeTicket (content (m .ticket))) → list′ ≡ sets list 0 (writeNumbers (firsts (m .dropped) (at (m .numbers))))

@@ -65,8 +65,8 @@ mended-twice k = schedule-mended (mended k) (mended-schedule k)
 
 -- ---- kept and dropped
 
-pub counts : (k : Ticket) → length (keptRules k) + length (dropped k) ≡ length (k .rules)
-counts k = split-count (selected-split k)
+pub selected-count : (k : Ticket) → length (keptRules k) + length (dropped k) ≡ length (k .rules)
+selected-count k = split-count (selected-split k)
 
 pub dropped-rising : (k : Ticket) → Rising 1 (length (k .rules)) (dropped k)
 dropped-rising k = split-rising (length (k .rules)) (selected-split k) (omega arith)
@@ -80,7 +80,7 @@ mended-valid k v = record {
   horizon-limit = v .horizon-limit;
   events-limit = v .events-limit;
   owners-known = v .owners-known;
-  rules-limit = omega (arith, v .rules-limit, counts k);
+  rules-limit = omega (arith, v .rules-limit, selected-count k);
   rules-valid = split-all _ (selected-split k) (v .rules-valid);
 }
 

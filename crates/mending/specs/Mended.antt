@@ -22,7 +22,7 @@ use Rattle.ticket.specs.Sizes.{ticket-bytes}
 use Rattle.ticket.specs.Content.{HoldsTicket}
 use Rattle.mending.specs.Selection.{withRules, keptRules, mended, dropped}
 use Rattle.mending.specs.Split.{Split, selected-split, Rising, rising-all}
-use Rattle.mending.specs.Laws.{HasSchedule, mended-schedule, schedule-mended, counts, dropped-rising, mended-valid, restored, put-back-place}
+use Rattle.mending.specs.Laws.{HasSchedule, mended-schedule, schedule-mended, selected-count, dropped-rising, mended-valid, restored, put-back-place}
 use Rattle.mending.specs.Mending.{writeNumbers, Outcome, refusing, writing, accepting, afterReading, mending, mending-short-out, mending-short-list, mending-read}
 
 -- ---- the list
@@ -39,7 +39,7 @@ length-numbers numbers = omega (
 
 -- 514 bytes hold every list
 pub numbers-fit : (k : Ticket) → Valid k → length (writeNumbers (dropped k)) ≤ 514
-numbers-fit k v = omega (arith, length-numbers (dropped k), counts k, v .rules-limit)
+numbers-fit k v = omega (arith, length-numbers (dropped k), selected-count k, v .rules-limit)
 
 -- numbers after their count, as they are read
 unfoldable pub readNumbers : Parser (List ℕ)
@@ -71,7 +71,7 @@ module _ (k : Ticket) (v : Valid k) where
 
   -- what is written is read again: the numbers,
   pub dropped-read : wholly readNumbers (writeNumbers (dropped k)) ≡ got (dropped k) []
-  dropped-read = wholly-forth writeNumbers Small readNumbers numbers-forth (dropped k) (omega (arith, counts k, v .rules-limit), dropped-small)
+  dropped-read = wholly-forth writeNumbers Small readNumbers numbers-forth (dropped k) (omega (arith, selected-count k, v .rules-limit), dropped-small)
 
   -- and the mended ticket
   pub mended-read : HoldsTicket (writeTicket (mended k)) (mended k)

@@ -23,12 +23,12 @@ use Rattle.writing.specs.Stores.{sets-over, sets-then}
 use Rattle.potentials.specs.Arrays.{window-at}
 use Rattle.parts.specs.Part.{members, partTotal}
 use Rattle.parts.specs.Members.{point-most}
-use Rattle.parts.specs.Parting.{Planned, plannedAt, planned, writePlanned, writePart, Outcome, refusing, accepting, parted, afterReading, parting, parting-read, parted-some}
+use Rattle.parts.specs.Parting.{Numbered, numberedAt, numbered, writeNumbered, writePart, Outcome, refusing, accepting, parted, afterReading, parting, parting-read, parted-some}
 use Rattle.parts.specs.Parted.{length-part, part-size}
 use Rattle.part_windows.specs.declared.Part.{Part}
 use Rattle.part_windows.specs.Planned.{IsPart}
 use Rattle.part.specs.Returned.{returned}
-use Rattle.part.specs.Stored.{plannedIn}
+use Rattle.part.specs.Stored.{numberedIn}
 use Rattle.part.specs.declared.Answer.{Answer}
 
 -- a is what the outcome returns, and `out` its output
@@ -46,16 +46,16 @@ module _ (k : temporal.Ticket) (v : Valid k) (d : ℕ) {p : Part} (I : IsPart d 
   event-most q l = omega (arith, I .places (suc q) l, point-most d k (suc q) (omega (arith, I .counted)), v .events-limit)
 
   -- the arrays hold the events and their windows
-  held : firsts (p .events) (plannedIn (p .points) (p .opens) (p .closes)) ≡ planned d k
+  held : firsts (p .events) (numberedIn (p .points) (p .opens) (p .closes)) ≡ numbered d k
   held =
-      firsts-cong (p .events) (plannedIn (p .points) (p .opens) (p .closes)) (plannedAt d k) (λ i l.
+      firsts-cong (p .events) (numberedIn (p .points) (p .opens) (p .closes)) (numberedAt d k) (λ i l.
       let e : at (p .points) (suc i) ≡ getD (members d k) i 0 = I .places (suc i) l in
       let f = sym (window-at (p .events) (p .opens) (p .closes) i l) ∙ ap (λ ws. getD ws i origin) (I .windows) in
       λ j. record { event = e j; window = f j })
-      ∙ ap (λ n. firsts n (plannedAt d k)) (I .counted)
+      ∙ ap (λ n. firsts n (numberedAt d k)) (I .counted)
 
   pub part-written : (out : List ℕ) {out′ : List ℕ} → 362 ≤ length out → consistent k ≡ true
-      → out′ ≡ sets (sets out 0 (bytes 2 (p .events))) 2 (each writePlanned (firsts (p .events) (plannedIn (p .points) (p .opens) (p .closes))))
+      → out′ ≡ sets (sets out 0 (bytes 2 (p .events))) 2 (each writeNumbered (firsts (p .events) (numberedIn (p .points) (p .opens) (p .closes))))
       → Meets (parted d k out) (record { number = 0; length = 2 + 9 * p .events; total = p .total }) out′
   unfolding writePart
   part-written out {out′} room c e =
@@ -64,9 +64,9 @@ module _ (k : temporal.Ticket) (v : Valid k) (d : ℕ) {p : Part} (I : IsPart d 
       subst (λ o. Meets o (record { number = 0; length = 2 + 9 * p .events; total = p .total }) out′) (sym (parted-some d k out c)) (
         (λ i. record { number = 0; length = n i; total = t i }),
         e
-            ∙ ap (λ xs. sets (sets out 0 (bytes 2 (p .events))) 2 (each writePlanned xs)) held
-            ∙ ap (λ m. sets (sets out 0 (bytes 2 m)) 2 (each writePlanned (planned d k))) (I .counted)
-            ∙ sets-then (bytes 2 (length (members d k))) (each writePlanned (planned d k)) out 0 2 (omega (arith, length-bytes 2 (length (members d k))))
+            ∙ ap (λ xs. sets (sets out 0 (bytes 2 (p .events))) 2 (each writeNumbered xs)) held
+            ∙ ap (λ m. sets (sets out 0 (bytes 2 m)) 2 (each writeNumbered (numbered d k))) (I .counted)
+            ∙ sets-then (bytes 2 (length (members d k))) (each writeNumbered (numbered d k)) out 0 2 (omega (arith, length-bytes 2 (length (members d k))))
             ∙ sets-over (writePart d k) out (omega (arith, part-size d k v .1)),
       )
 

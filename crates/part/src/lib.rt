@@ -9,14 +9,17 @@ ghost use Rattle.temporal.specs.Run.{Valid};
 ghost use Rattle.network.specs.Stored.{at};
 ghost use Rattle.ticket.specs.Writer.{bytes, each};
 ghost use Rattle.ticket.specs.Writing.{firsts, content};
-ghost use Rattle.parts.specs.Parting.{writePlanned, parted, parting};
+ghost use Rattle.parts.specs.Parting.{writeNumbered, parted, parting};
 ghost use Rattle.part.specs.Returned.{returned};
-ghost use Rattle.part.specs.Stored.{plannedIn};
+ghost use Rattle.part.specs.Stored.{numberedIn};
 use part_windows::Part;
 use ticket::Ticket;
 
 // A part holds its count, of two bytes, and 40 events, of nine bytes each.
 pub const PART_BYTES: usize = 362;
+
+// How many devices there are, in the type of a device that is named.
+const DEVICES: u32 = ticket::DEVICES as u32;
 
 // Store the events of a part after its count, each with its window.
 fn put_events<'a>(
@@ -27,7 +30,7 @@ fn put_events<'a>(
     closes: &'a [u32; 40],
 )
     requires { ⌜ (n ≤ 40) × (362 ≤ length (now out)) × ((q : ℕ) → q < n → at (now points) (suc q) ≤ 40) ⌝ }
-    ensures { λ _. ⌜ now (out .exit) ≡ sets (now (out .entry)) 2 (each writePlanned (firsts n (plannedIn (now (points .entry)) (now (opens .entry)) (now (closes .entry))))) ⌝ }
+    ensures { λ _. ⌜ now (out .exit) ≡ sets (now (out .entry)) 2 (each writeNumbered (firsts n (numberedIn (now (points .entry)) (now (opens .entry)) (now (closes .entry))))) ⌝ }
 {
     let mut i = 0;
     while i < n {
@@ -85,7 +88,7 @@ pub fn part(ticket: &[u8], device: u32, out: &mut [u8]) -> Answer
     if out.len() < PART_BYTES {
         return refusal(10);
     }
-    if 4 < device {
+    if DEVICES <= device {
         return refusal(4);
     }
     let read = reading::read_ticket(ticket);

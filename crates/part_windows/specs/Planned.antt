@@ -47,7 +47,7 @@ use Rattle.part_windows.specs.declared.Part.{Part}
 use Rattle.part_windows.specs.Entries.{Distances, lower-parts}
 
 -- what is asked of the points and the entries of device d's part
-pub record Parted (t : Ticket) (d n : ℕ) (points w : List ℕ) : Type 0 where
+pub record GivenPart (t : Ticket) (d n : ℕ) (points w : List ℕ) : Type 0 where
   pub valid : Valid (content t)
   pub has : T (consistent (content t))
   pub counted : n ≡ length (members d (content t))
@@ -63,7 +63,7 @@ pub record IsPart (d : ℕ) (k : temporal.Ticket) (p : Part) : Type 0 where
   pub windows : windowList (p .events) (p .opens) (p .closes) ≡ partPlan d k
   pub total : p .total ≡ partTotal d k
 
-module _ {t : Ticket} {d n : ℕ} {points w : List ℕ} (P : Parted t d n points w) where
+module _ {t : Ticket} {d n : ℕ} {points w : List ℕ} (P : GivenPart t d n points w) where
   abbrev k : temporal.Ticket
   k = content t
 
@@ -197,6 +197,6 @@ module _ {t : Ticket} {d n : ℕ} {points w : List ℕ} (P : Parted t d n points
     part-total = ap₂ totalOf owners-are e
 
 -- the points that `members` finds
-pub placed-parted : (t : Ticket) {d n : ℕ} {points : List ℕ} (w : List ℕ) → Valid (content t) → T (consistent (content t)) → Placed d (content t .owners) points n
-    → Distances (content t) (t .events) (entry w) → Parted t d n points w
-placed-parted t w v c P D = record { valid = v; has = c; counted = P .counted; places = P .places; distances = D }
+pub placed-given : (t : Ticket) {d n : ℕ} {points : List ℕ} (w : List ℕ) → Valid (content t) → T (consistent (content t)) → Placed d (content t .owners) points n
+    → Distances (content t) (t .events) (entry w) → GivenPart t d n points w
+placed-given t w v c P D = record { valid = v; has = c; counted = P .counted; places = P .places; distances = D }

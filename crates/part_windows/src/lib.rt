@@ -18,7 +18,7 @@ ghost use Rattle.windows.specs.Widest.{Widened};
 ghost use Rattle.closure.specs.Matrix.{entry};
 ghost use Rattle.parts.specs.Part.{partPlan, partTotals};
 ghost use Rattle.part_windows.specs.Entries.{Distances};
-ghost use Rattle.part_windows.specs.Planned.{Parted, IsPart};
+ghost use Rattle.part_windows.specs.Planned.{GivenPart, IsPart};
 use ticket::Ticket;
 
 // The entries of a ticket's matrix after all stops, if it has a schedule.
@@ -28,14 +28,14 @@ struct Closed {
 }
 
 // Room for the edges of the largest part, 200 of its windows and 1,640 distances, and for one more; as a call's result it is no list of literals in the proofs.
-fn edges() -> [u32; 7364]
+fn part_edges() -> [u32; 7364]
     ensures { λ r. ⌜ length r ≡ 7364 ⌝ }
 {
     [0u32; 7364]
 }
 
 // Room for the edges of a ticket's rules and limits.
-fn rules() -> [u32; 1344]
+fn ticket_edges() -> [u32; 1344]
     ensures { λ r. ⌜ length r ≡ 1344 ⌝ }
 {
     [0u32; 1344]
@@ -48,7 +48,7 @@ fn close(t: Ticket) -> Closed
     ensures { λ r. ⌜ (r .found ≡ true → Distances (content t) (t .events) (entry (r .entries))) ⌝ }
 {
     let n = t.events;
-    let mut net = rules();
+    let mut net = ticket_edges();
     let mut times = [0u32; 81];
     let mut entries = stops::first_entries(t);
     if !schedule::schedule(&mut net, t, &mut times) {
@@ -96,11 +96,11 @@ fn plan_points(
     opens: &mut [u32; 40],
     closes: &mut [u32; 40],
 )
-    requires { ⌜ Parted t device n (now points) (now w) ⌝ }
+    requires { ⌜ GivenPart t device n (now points) (now w) ⌝ }
     requires { ⌜ (length (now opens) ≡ 40) × (length (now closes) ≡ 40) ⌝ }
     ensures { λ _. ⌜ windowList n (now (opens .exit)) (now (closes .exit)) ≡ partPlan device (content t) ⌝ }
 {
-    let mut net = edges();
+    let mut net = part_edges();
     let mut pot = [0u32; 81];
     let m = part_network::build(&mut net, t.horizon, n, points, w);
     part_network::lay_earliest(n, points, w, &mut pot);

@@ -20,7 +20,7 @@ use Rattle.ticket.specs.Writing.{firsts}
 use Rattle.parts.specs.Part.{ownedFrom, partTicket, restrict, partPlan, partTotal, partTotals, sum}
 use Rattle.parts.specs.OneEvent.{one-event}
 use Rattle.parts.specs.Parts.{parts-equal}
-use Rattle.parts.specs.Parting.{writePlanned, writePart, writing, parting, parting-read, parted-some}
+use Rattle.parts.specs.Parting.{writeNumbered, writePart, writing, parting, parting-read, parted-some}
 
 -- ---- P1
 
@@ -77,7 +77,7 @@ Holds x = (out : List ℕ) → 362 ≤ length out → parting bytes1 (x .device)
 
 -- the part with these events and these windows
 abbrev partOf : List ℕ → List Window → List ℕ
-partOf ps ws = bytes 2 (length ps) ++ each writePlanned (firsts (length ps) (λ i. record { event = getD ps i 0; window = getD ws i origin }))
+partOf ps ws = bytes 2 (length ps) ++ each writeNumbered (firsts (length ps) (λ i. record { event = getD ps i 0; window = getD ws i origin }))
 
 row : (d : ℕ) {part : List ℕ} {total : ℕ} → d ≤ 4 → writePart d ticket1 ≡ part → partTotal d ticket1 ≡ total → (out : List ℕ) → 362 ≤ length out
     → parting bytes1 d out ≡ writing part total out
@@ -88,7 +88,7 @@ row d m w t out l =
     ∙ (λ i. writing (w i) (t i) out)
 
 pub examples-hold : All Holds examples
-unfolding ownedFrom writePart writePlanned bytes each firsts weight weights
+unfolding ownedFrom writePart writeNumbered bytes each firsts weight weights
 examples-hold = (
   row 0 (omega arith) (ap (partOf (1 ∷ [])) p1-camera) (ap (total (partTicket 0 ticket1)) p1-camera),
   (

@@ -11,7 +11,7 @@
 --   "keep all distances among these and point 0": `part-distance`; the part of a ticket with a schedule has one (`part-schedule`, `part-consistent`).
 --   "plan that part with the same weights": the part's plan is the widest of its fit sets, and of these the earliest (`part-chosen`).
 --   "A part is written as a 2-byte count, then each event's number in a byte, open and close as in the record, rising": its length (`part-size`), that it is read
---   back (`part-read`), the events in it (`planned-events`), a device without events (`part-empty`).
+--   back (`part-read`), the events in it (`numbered-events`), a device without events (`part-empty`).
 --   "The five part totals sum to no less than the whole total": `parts-at-least`; of five calls on bytes `five-at-least`.
 --   "Where no rule joins events of two devices, the sum equals it, and the part windows are the windows of the whole plan": `parts-equal`; of five calls on
 --   bytes, as the parts are read back, `five-equal`.

@@ -35,13 +35,13 @@ use Rattle.parts.specs.Part.{members, partTicket, restrict, partPlan, pa
 use Rattle.parts.specs.Members.{members-few, members-rising, member-owned}
 use Rattle.parts.specs.PartDistance.{part-distinct}
 use Rattle.parts.specs.Parts.{part-chosen, parts-at-least, parts-equal}
-use Rattle.parts.specs.Parting.{Planned, plannedAt, planned, writePlanned, writePart, Outcome, refusing, accepting, parted, afterReading, parting, parting-short, parting-unknown, parting-read, parted-none, parted-some}
+use Rattle.parts.specs.Parting.{Numbered, numberedAt, numbered, writeNumbered, writePart, Outcome, refusing, accepting, parted, afterReading, parting, parting-short, parting-unknown, parting-read, parted-none, parted-some}
 
 -- ---- a part as bytes
 
-pub length-planned : (p : Planned) → length (writePlanned p) ≡ 9
-unfolding writePlanned
-length-planned p =
+pub length-numbered : (p : Numbered) → length (writeNumbered p) ≡ 9
+unfolding writeNumbered
+length-numbered p =
     let w = p .window in
     omega (arith, length-append (bytes 4 (w .opens)) (bytes 4 (w .closes)), length-bytes 4 (w .opens), length-bytes 4 (w .closes))
 
@@ -50,10 +50,10 @@ pub length-part : (d : ℕ) (k : Ticket) → length (writePart d k) ≡ 2 + 9 * 
 unfolding writePart
 length-part d k = omega (
   arith,
-  length-append (bytes 2 (length (members d k))) (each writePlanned (planned d k)),
+  length-append (bytes 2 (length (members d k))) (each writeNumbered (numbered d k)),
   length-bytes 2 (length (members d k)),
-  length-each writePlanned 9 length-planned (planned d k),
-  length-firsts (length (members d k)) (plannedAt d k),
+  length-each writeNumbered 9 length-numbered (numbered d k),
+  length-firsts (length (members d k)) (numberedAt d k),
 )
 
 -- so 362 bytes hold every part
@@ -70,7 +70,7 @@ member-byte d k v i l =
 pub part-empty : (d : ℕ) (k : Ticket) → length (members d k) ≡ 0 → (writePart d k ≡ 0 ∷ 0 ∷ []) × (partTotal d k ≡ 0)
 unfolding writePart bytes each firsts
 part-empty d k e = (
-  ap (λ n. bytes 2 n ++ each writePlanned (firsts n (plannedAt d k))) e,
+  ap (λ n. bytes 2 n ++ each writeNumbered (firsts n (numberedAt d k))) e,
   ap (λ os. totalOf os (partPlan d k)) (none (members d k) e),
 )
   where
@@ -79,24 +79,24 @@ part-empty d k e = (
     none (x ∷ xs) q = absurd (omega arith)
 
 -- an event, its open and its close, as they are read
-unfoldable pub readPlanned : Parser Planned
-readPlanned = do
+unfoldable pub readNumbered : Parser Numbered
+readNumbered = do
   p ← byte
   a ← little 4
   b ← little 4
   give (record { event = p; window = record { opens = a; closes = b } })
 
 -- and a part: its count and its events
-unfoldable pub readPart : Parser (List Planned)
-readPart = little 2 >>= (λ n. many readPlanned n)
+unfoldable pub readPart : Parser (List Numbered)
+readPart = little 2 >>= (λ n. many readNumbered n)
 
 -- four bytes hold each end
-abbrev Small : Planned → Type 0
+abbrev Small : Numbered → Type 0
 Small p = (p .window .opens < 256 ^ 4) × (p .window .closes < 256 ^ 4)
 
-planned-forth : (p : Planned) (s : List ℕ) → Small p → readPlanned (writePlanned p ++ s) ≡ got p s
-unfolding readPlanned writePlanned
-planned-forth p s h =
+numbered-forth : (p : Numbered) (s : List ℕ) → Small p → readNumbered (writeNumbered p ++ s) ≡ got p s
+unfolding readNumbered writeNumbered
+numbered-forth p s h =
     rw (
       append-assoc,
       little-forth 4 (p .window .opens) (bytes 4 (p .window .closes) ++ s) (h .0),
@@ -107,57 +107,57 @@ module _ (d : ℕ) (k : Ticket) (v : Valid k) (some : T (consistent k)) where
   part-ends : Ends (partTicket d k) (partPlan d k)
   part-ends = fit-ends (partTicket d k) (part-distinct d k) (partPlan d k) (part-chosen k some d .allowed)
 
-  ends-small : (i : ℕ) → Small (plannedAt d k i)
+  ends-small : (i : ℕ) → Small (numberedAt d k i)
   ends-small i =
       let o = part-ends .ordered (suc i) in
       let h = part-ends .inside (suc i) in
       (omega (arith, o, h, v .horizon-limit), omega (arith, h, v .horizon-limit))
 
   -- what is written is read again
-  pub part-read : wholly readPart (writePart d k) ≡ got (planned d k) []
+  pub part-read : wholly readPart (writePart d k) ≡ got (numbered d k) []
   unfolding readPart writePart
   part-read = rw (
-    little-forth 2 (length (members d k)) (each writePlanned (planned d k)) (omega (arith, members-few d k, v .events-limit)),
+    little-forth 2 (length (members d k)) (each writeNumbered (numbered d k)) (omega (arith, members-few d k, v .events-limit)),
     events-read,
   )
     where
-      events-read : many readPlanned (length (members d k)) (each writePlanned (planned d k)) ≡ got (planned d k) []
+      events-read : many readNumbered (length (members d k)) (each writeNumbered (numbered d k)) ≡ got (numbered d k) []
       events-read =
-          ap₂ (λ n s. many readPlanned n s) (sym (length-firsts (length (members d k)) (plannedAt d k))) (sym (append-nil (each writePlanned (planned d k))))
-          ∙ many-forth readPlanned writePlanned Small planned-forth (planned d k) [] (all-firsts Small (plannedAt d k) (length (members d k)) (λ i l. ends-small i))
+          ap₂ (λ n s. many readNumbered n s) (sym (length-firsts (length (members d k)) (numberedAt d k))) (sym (append-nil (each writeNumbered (numbered d k))))
+          ∙ many-forth readNumbered writeNumbered Small numbered-forth (numbered d k) [] (all-firsts Small (numberedAt d k) (length (members d k)) (λ i l. ends-small i))
 
 -- ---- the part in the plan
 
 -- these events with their windows in a set of windows for all events
-abbrev pub shown : List Window → List ℕ → List Planned
+abbrev pub shown : List Window → List ℕ → List Numbered
 shown ws ps = map (λ p. record { event = p; window = windowOf ws p }) ps
 
 module _ (d : ℕ) (k : Ticket) where
   -- the events of the part are the device's
-  pub planned-events : map (λ (p : Planned). p .event) (planned d k) ≡ members d k
-  planned-events = ext-getD 0 (map (λ (p : Planned). p .event) (planned d k)) (members d k) len (λ i l. at i (subst (λ n. i < n) len l))
+  pub numbered-events : map (λ (p : Numbered). p .event) (numbered d k) ≡ members d k
+  numbered-events = ext-getD 0 (map (λ (p : Numbered). p .event) (numbered d k)) (members d k) len (λ i l. at i (subst (λ n. i < n) len l))
     where
-      len : length (map (λ (p : Planned). p .event) (planned d k)) ≡ length (members d k)
-      len = length-map (planned d k) (λ (p : Planned). p .event) ∙ length-firsts (length (members d k)) (plannedAt d k)
+      len : length (map (λ (p : Numbered). p .event) (numbered d k)) ≡ length (members d k)
+      len = length-map (numbered d k) (λ (p : Numbered). p .event) ∙ length-firsts (length (members d k)) (numberedAt d k)
 
-      at : (i : ℕ) → i < length (members d k) → getD (map (λ (p : Planned). p .event) (planned d k)) i 0 ≡ getD (members d k) i 0
+      at : (i : ℕ) → i < length (members d k) → getD (map (λ (p : Numbered). p .event) (numbered d k)) i 0 ≡ getD (members d k) i 0
       at i l =
-          List·getD-map (λ (p : Planned). p .event) (planned d k) i (record { event = 0; window = origin })
-          ∙ ap (λ (p : Planned). p .event) (getD-firsts (length (members d k)) (plannedAt d k) (record { event = 0; window = origin }) i l)
+          List·getD-map (λ (p : Numbered). p .event) (numbered d k) i (record { event = 0; window = origin })
+          ∙ ap (λ (p : Numbered). p .event) (getD-firsts (length (members d k)) (numberedAt d k) (record { event = 0; window = origin }) i l)
 
   -- and where their windows are those of a set of windows for all events, that set shows them
-  pub planned-shown : (ws : List Window) → partPlan d k ≡ restrict d k ws → planned d k ≡ shown ws (members d k)
-  planned-shown ws e = ext-getD none (planned d k) (shown ws (members d k)) (len ∙ sym (length-map (members d k) _)) (λ i l. at i (subst (λ n. i < n) len l))
+  pub numbered-shown : (ws : List Window) → partPlan d k ≡ restrict d k ws → numbered d k ≡ shown ws (members d k)
+  numbered-shown ws e = ext-getD none (numbered d k) (shown ws (members d k)) (len ∙ sym (length-map (members d k) _)) (λ i l. at i (subst (λ n. i < n) len l))
     where
-      none : Planned
+      none : Numbered
       none = record { event = 0; window = origin }
 
-      len : length (planned d k) ≡ length (members d k)
-      len = length-firsts (length (members d k)) (plannedAt d k)
+      len : length (numbered d k) ≡ length (members d k)
+      len = length-firsts (length (members d k)) (numberedAt d k)
 
-      at : (i : ℕ) → i < length (members d k) → getD (planned d k) i none ≡ getD (shown ws (members d k)) i none
+      at : (i : ℕ) → i < length (members d k) → getD (numbered d k) i none ≡ getD (shown ws (members d k)) i none
       at i l =
-          getD-firsts (length (members d k)) (plannedAt d k) none i l
+          getD-firsts (length (members d k)) (numberedAt d k) none i l
           ∙ ap (λ (vs : List Window). record { event = getD (members d k) i 0; window = getD vs i origin }) e
           ∙ ap (λ (w : Window). record { event = getD (members d k) i 0; window = w }) (List·getD-map (windowOf ws) (members d k) i 0)
           ∙ sym (List·getD-map (λ p. record { event = p; window = windowOf ws p }) (members d k) i 0)
@@ -184,8 +184,8 @@ pub record Parted (ticket : List ℕ) (device : ℕ) (out : List ℕ) (o : Outco
   pub fits : o .length ≤ 362
   pub out-is : o .out ≡ over (writePart device k) out
   -- and read back: the device's events, rising, with the windows of the part's plan
-  pub reads : wholly readPart (take (o .length) (o .out)) ≡ got (planned device k) []
-  pub events-are : map (λ (p : Planned). p .event) (planned device k) ≡ members device k
+  pub reads : wholly readPart (take (o .length) (o .out)) ≡ got (numbered device k) []
+  pub events-are : map (λ (p : Numbered). p .event) (numbered device k) ≡ members device k
   pub rising : (i j : ℕ) → i < j → j < length (members device k) → getD (members device k) i 0 < getD (members device k) j 0
   pub in-a-byte : (i : ℕ) → i < length (members device k) → (1 ≤ getD (members device k) i 0) × (getD (members device k) i 0 < 256)
   -- "plan that part with the same weights": the widest of its fit sets, and of these the earliest
@@ -314,7 +314,7 @@ module _ (ticket : List ℕ) (device : ℕ) (out : List ℕ) where
           fits = omega (arith, ap (λ (o : Outcome). o .length) a, part-size device k v .1);
           out-is = ap (λ (o : Outcome). o .out) a;
           reads = ap (wholly readPart) t ∙ part-read device k v (u .has);
-          events-are = planned-events device k;
+          events-are = numbered-events device k;
           rising = members-rising device k;
           in-a-byte = member-byte device k v;
           chosen = part-chosen k (u .has) device;
@@ -385,5 +385,5 @@ module _ (ticket : List ℕ) (bytes : Bytes ticket) (k : Ticket) (holds : HoldsT
             ap (λ (o : Outcome). wholly readPart (take (o .length) (o .out))) (accepts d l)
             ∙ ap (wholly readPart) (take-append-seam (writePart d k) _)
             ∙ part-read d k valid some
-            ∙ ap (λ ps. got ps []) (planned-shown d k (s .windows) (e .1 d l ∙ ap (restrict d k) (sym w))),
+            ∙ ap (λ ps. got ps []) (numbered-shown d k (s .windows) (e .1 d l ∙ ap (restrict d k) (sym w))),
       )

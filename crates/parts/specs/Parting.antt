@@ -18,25 +18,25 @@ use Rattle.parts.specs.Part.{members, partPlan, partTotal}
 -- ---- a part as bytes
 
 -- an event, by its number in the ticket, and its window in the plan of its device's part
-pub record Planned : Type 0 where
+pub record Numbered : Type 0 where
   pub event : ℕ
   pub window : Window
 
 -- the device's i-th event, counted from 0
-abbrev pub plannedAt : ℕ → Ticket → ℕ → Planned
-plannedAt d k i = record { event = getD (members d k) i 0; window = getD (partPlan d k) i origin }
+abbrev pub numberedAt : ℕ → Ticket → ℕ → Numbered
+numberedAt d k i = record { event = getD (members d k) i 0; window = getD (partPlan d k) i origin }
 
 -- all its events, "rising"
-abbrev pub planned : ℕ → Ticket → List Planned
-planned d k = firsts (length (members d k)) (plannedAt d k)
+abbrev pub numbered : ℕ → Ticket → List Numbered
+numbered d k = firsts (length (members d k)) (numberedAt d k)
 
 -- "each event's number in a byte, open and close as in the record"
-unfoldable pub writePlanned : Planned → List ℕ
-writePlanned p = windowBytes (p .event) (p .window .opens) (p .window .closes)
+unfoldable pub writeNumbered : Numbered → List ℕ
+writeNumbered p = windowBytes (p .event) (p .window .opens) (p .window .closes)
 
 -- "A part is written as a 2-byte count, then each event's"
 unfoldable pub writePart : ℕ → Ticket → List ℕ
-writePart d k = bytes 2 (length (members d k)) ++ each writePlanned (planned d k)
+writePart d k = bytes 2 (length (members d k)) ++ each writeNumbered (numbered d k)
 
 -- ---- the call
 

@@ -8,14 +8,14 @@ use lib.Seq.{sets}
 use Rattle.network.specs.Stored.{at}
 use Rattle.ticket.specs.Writer.{each}
 use Rattle.ticket.specs.Writing.{firsts}
-use Rattle.parts.specs.Parting.{writePlanned}
-use Rattle.part.specs.Stored.{plannedIn, planned-more, planned-bytes}
+use Rattle.parts.specs.Parting.{writeNumbered}
+use Rattle.part.specs.Stored.{numberedIn, numbered-more, numbered-bytes}
 use Rattle.part.proofs.put_events.Statement.{statement}
 use Rattle.part.proofs.put_events.Tie as tie
 
 abbrev Inv-loop : tie.InvT-loop
 Inv-loop out₀ n points opens closes i₀ out i =
-    (i ≤ n) × (length out ≡ length out₀) × (out ≡ sets out₀ 2 (each writePlanned (firsts i (plannedIn points opens closes))))
+    (i ≤ n) × (length out ≡ length out₀) × (out ≡ sets out₀ 2 (each writeNumbered (firsts i (numberedIn points opens closes))))
 
 abbrev μ-loop : tie.MeasureT-loop
 μ-loop out₀ n points opens closes i₀ out i = n - i
@@ -40,13 +40,13 @@ loop-again c =
     let a = entry .args in
     let l = at-loop .loop in
     let p = after-put-window .put-window in
-    let f = plannedIn (a .points .now) (a .opens .now) (a .closes .now) in (
+    let f = numberedIn (a .points .now) (a .opens .now) (a .closes .now) in (
       omega arith,
       p .kept .0 ∙ l .inv .1,
       p .ensures
-          ∙ ap (sets _ (2 + 9 * l .i)) (planned-bytes (a .points .now) (a .opens .now) (a .closes .now) (l .i))
-          ∙ ap (λ o. sets o (2 + 9 * l .i) (writePlanned (f (l .i)))) (l .inv .2)
-          ∙ sym (planned-more (a .out .now) (l .i) f),
+          ∙ ap (sets _ (2 + 9 * l .i)) (numbered-bytes (a .points .now) (a .opens .now) (a .closes .now) (l .i))
+          ∙ ap (λ o. sets o (2 + 9 * l .i) (writeNumbered (f (l .i)))) (l .inv .2)
+          ∙ sym (numbered-more (a .out .now) (l .i) f),
     )
 
 returns : tie.Need-returns Inv-loop μ-loop
@@ -55,7 +55,7 @@ returns c =
     let a = entry .args in
     let l = c .before .loop in
     let e : l .i ≡ a .n = omega arith in
-    l .inv .2 ∙ ap (λ k. sets (a .out .now) 2 (each writePlanned (firsts k (plannedIn (a .points .now) (a .opens .now) (a .closes .now))))) e
+    l .inv .2 ∙ ap (λ k. sets (a .out .now) 2 (each writeNumbered (firsts k (numberedIn (a .points .now) (a .opens .now) (a .closes .now))))) e
 
 pub put-events-spec : {M : Type 1} → statement M
 put-events-spec =

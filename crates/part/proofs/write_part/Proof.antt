@@ -6,9 +6,9 @@ use mathlib.Core.Path.{_≡_, sym, ap, _∙_}
 use lib.Seq.{sets}
 use Rattle.ticket.specs.Writer.{bytes, each}
 use Rattle.ticket.specs.Writing.{firsts, content}
-use Rattle.parts.specs.Parting.{writePlanned, parted-none}
+use Rattle.parts.specs.Parting.{writeNumbered, parted-none}
 use Rattle.part_windows.specs.Planned.{IsPart}
-use Rattle.part.specs.Stored.{plannedIn}
+use Rattle.part.specs.Stored.{numberedIn}
 use Rattle.part.specs.Steps.{meets-refused, event-most, part-written}
 use Rattle.part.proofs.write_part.Statement.{statement}
 use Rattle.part.proofs.write_part.Tie as tie
@@ -54,7 +54,7 @@ returns-2 c =
     let I = is-part found in
     part-written (content (a .t)) (entry .pre .0) (a .device) I (a .out .now) (entry .pre .1) (sym (found .before .before .plan-part .ensures .0) ∙ I .found)
     (stored .put-events .ensures
-    ∙ ap (λ o. sets o 2 (each writePlanned (firsts (p .events) (plannedIn (p .points) (p .opens) (p .closes))))) (counted .put-u16 .ensures))
+    ∙ ap (λ o. sets o 2 (each writeNumbered (firsts (p .events) (numberedIn (p .points) (p .opens) (p .closes))))) (counted .put-u16 .ensures))
 
 pub write-part-spec : {M : Type 1} → statement M
 write-part-spec =

@@ -3,7 +3,7 @@ use native.Mathlib.Omega.{arith}
 use borrow.Author.Needs.{needs}
 use mathlib.Core.Path.{refl, _∙_}
 use Rattle.ticket.specs.Content.{limits}
-use Rattle.part_windows.specs.Planned.{placed-parted, part-few, part-lies, part-total}
+use Rattle.part_windows.specs.Planned.{placed-given, part-few, part-lies, part-total}
 use Rattle.part_windows.proofs.part_of.Statement.{statement}
 use Rattle.part_windows.proofs.part_of.Tie as tie
 
@@ -18,7 +18,7 @@ plan-points-requires c κs =
     let after-members : tie.After-members = search needs in
     let a = entry .args in
     let p = entry .pre in
-    (placed-parted (a .t) (a .w .now) (p .0) (p .1) (after-members .members .ensures) (p .2), (refl, refl))
+    (placed-given (a .t) (a .w .now) (p .0) (p .1) (after-members .members .ensures) (p .2), (refl, refl))
 
 total-of-requires : tie.Need-total-of-requires
 total-of-requires c κs =
@@ -27,7 +27,7 @@ total-of-requires c κs =
     let entry : tie.Start = search needs in
     let a = entry .args in
     let p = entry .pre in
-    let P = placed-parted (a .t) (a .w .now) (p .0) (p .1) (after-members .members .ensures) (p .2) in
+    let P = placed-given (a .t) (a .w .now) (p .0) (p .1) (after-members .members .ensures) (p .2) in
     (part-few P, part-lies P _ _ (after-plan-points .plan-points .ensures))
 
 returns : tie.Need-returns
@@ -37,7 +37,7 @@ returns c =
     let entry : tie.Start = search needs in
     let a = entry .args in
     let p = entry .pre in
-    let P = placed-parted (a .t) (a .w .now) (p .0) (p .1) (after-members .members .ensures) (p .2) in
+    let P = placed-given (a .t) (a .w .now) (p .0) (p .1) (after-members .members .ensures) (p .2) in
     let windows = after-plan-points .plan-points .ensures in
     record {
       found = refl;
