@@ -150,8 +150,10 @@
  *     commitment, swap two buffers (see below).
  *   - While a call runs, nobody else writes its input or touches its output.
  *   Calls in several threads need no lock where each has memory of its own. Every function ends after a
- *   bounded number of steps, whatever it is given, and uses less than 40 kilobytes of stack, beyunlak_part
- *   less than 100 (measured; it depends on how the library was compiled).
+ *   bounded number of steps, whatever it is given. Of stack both plans use less than 30 kilobytes and
+ *   beyunlak_commit less than 22, in each 7,296 bytes of them for the scratch that the caller does not lend;
+ *   beyunlak_part uses less than 100, and every other function less than 35 (measured; it depends on how the
+ *   library was compiled).
  *   Bytes from a stranger are safe: they are refused or accepted, and never read or written past their length.
  *
  * EXAMPLE (examples/host.c is a whole program)

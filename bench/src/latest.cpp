@@ -22,18 +22,6 @@ const std::vector<int> sizes = {5, 10, 20, 40};
 int turns = 25;
 double least_seconds = 0.0005;
 
-// Each time t becomes H - t. A bound above a ticket's range is cut: it holds for all ticks anyway.
-Ticket mirrored(const Ticket &ticket) {
-    Ticket mirror = ticket;
-    for (Rule &rule : mirror.rules) {
-        if (rule.from == 0) rule.bound -= ticket.horizon;
-        if (rule.to == 0) rule.bound += ticket.horizon;
-        rule.bound = std::min<int64_t>(rule.bound, BEYUNLAK_BOUND_MAX);
-        std::swap(rule.from, rule.to);
-    }
-    return mirror;
-}
-
 Windows mirrored(int64_t horizon, const Windows &windows) {
     Windows mirror;
     for (const Window &w : windows) mirror.push_back({horizon - w.close, horizon - w.open});

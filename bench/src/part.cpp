@@ -27,19 +27,6 @@ constexpr double target = 0.6;
 int turns = 15;
 double least_seconds = 0.0005;
 
-// A ticket of the structure, of one device alone. Where the structure has fewer rules, copies of them with more room come
-// after them until there are 256, so that its distances stay.
-Ticket full_ticket(const std::string &structure, int device, uint64_t seed) {
-    Ticket ticket = make_ticket(structure, BEYUNLAK_EVENTS_MAX, BEYUNLAK_RULES_MAX, seed);
-    std::fill(ticket.owners.begin(), ticket.owners.end(), device);
-    for (size_t k = 0; ticket.rules.size() < BEYUNLAK_RULES_MAX; k++) {
-        Rule rule = ticket.rules[k];
-        rule.bound = std::min<int64_t>(rule.bound + static_cast<int64_t>(1000 * (k % 10 + 1)), BEYUNLAK_BOUND_MAX);
-        ticket.rules.push_back(rule);
-    }
-    return ticket;
-}
-
 // The same ticket with a rule for each distance in the place of its own rules; by Floyd's and Warshall's method.
 Ticket with_distances(const Ticket &ticket) {
     const int points = ticket.events() + 1;
@@ -123,7 +110,7 @@ int64_t total(const Ticket &ticket, const Windows &windows) {
 }
 
 std::vector<Call> checked_calls(const std::string &structure, int device, uint64_t seed) {
-    const Ticket ticket = full_ticket(structure, device, seed);
+    const Ticket ticket = of_one_device(full_ticket(structure, seed), device);
     const Windows wanted = solve_ssp(make_network(ticket, any_windows(ticket)));
     const auto calls = calls_on(ticket);
     for (const Call &call : calls) {

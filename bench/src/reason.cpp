@@ -21,24 +21,6 @@ const std::vector<int> sizes = {5, 10, 20, 40};
 int turns = 15;
 double least_seconds = 0.0005;
 
-// A list of names: its count, then each name after its length.
-std::vector<uint8_t> name_list(const std::vector<std::string> &names) {
-    std::vector<uint8_t> bytes = {static_cast<uint8_t>(names.size()), 0};
-    for (const std::string &name : names) {
-        bytes.push_back(static_cast<uint8_t>(name.size()));
-        bytes.insert(bytes.end(), name.begin(), name.end());
-    }
-    return bytes;
-}
-
-std::vector<uint8_t> labels_of(int events) {
-    std::vector<std::string> names;
-    for (int k = 0; k < events; k++) names.push_back(std::string("event") + char('a' + k / 26) + char('a' + k % 26));
-    return name_list(names);
-}
-
-const std::vector<uint8_t> roster = name_list({"camera", "filterwheel", "lamps", "stage", "database"});
-
 // The ticket's rules and, behind them, those that hold unwritten: number k stands at place k - 1.
 std::vector<Rule> numbered_rules(const Ticket &ticket) {
     std::vector<Rule> rules = ticket.rules;
@@ -119,27 +101,6 @@ Ring ring_told(const Call &call) {
     const char *at = reinterpret_cast<const char *>(out);
     while ((at = std::strstr(at, "\nby ")) != nullptr) ring.push_back(std::atoi(at += 4));
     return ring;
-}
-
-// One rule more, or in the place of the last one: the opposite of the first whose opposite is in range, a tick too tight.
-Ticket closed_by_one(Ticket ticket) {
-    const auto in_range = [](const Rule &rule) { return rule.bound < BEYUNLAK_BOUND_MAX; };
-    const Rule rule = *std::find_if(ticket.rules.begin(), ticket.rules.end(), in_range);
-    if (ticket.rules.size() == BEYUNLAK_RULES_MAX) ticket.rules.pop_back();
-    ticket.rules.push_back({rule.to, rule.from, -rule.bound - 1});
-    return ticket;
-}
-
-// A rule from each point to the next, which the times just keep, but for the first, which is a tick too tight; rules
-// above the limit make room.
-Ticket closed_through_all(Ticket ticket, const std::vector<int64_t> &times) {
-    const size_t points = times.size();
-    ticket.rules.resize(std::min(ticket.rules.size(), BEYUNLAK_RULES_MAX - points));
-    for (size_t p = 0; p < points; p++) {
-        const size_t next = (p + 1) % points;
-        ticket.rules.push_back({static_cast<int>(p), static_cast<int>(next), times[next] - times[p] - (p == 0)});
-    }
-    return ticket;
 }
 
 // The calls on one ticket: its plan; the reasons of two impossible ones; its reason, which it does not have.

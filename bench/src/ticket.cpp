@@ -2,26 +2,13 @@
 
 #include <algorithm>
 
+#include "../../include/beyunlak.h"
+
 namespace {
 
 constexpr int64_t horizon = 1000000;
 // Camera, filter wheel, lamps, stage, database.
 constexpr int64_t weights[5] = {3, 1, 1, 1, 0};
-
-// xorshift64*: one seed gives one sequence.
-struct Random {
-    uint64_t state;
-    explicit Random(uint64_t seed) : state(seed * 0x2545f4914f6cdd1dull + 0x9e3779b97f4a7c15ull) {}
-    uint64_t next() {
-        state ^= state >> 12;
-        state ^= state << 25;
-        state ^= state >> 27;
-        return state * 0x2545f4914f6cdd1dull;
-    }
-    int64_t between(int64_t low, int64_t high) {
-        return low + static_cast<int64_t>(next() % static_cast<uint64_t>(high - low + 1));
-    }
-};
 
 // Rules that a hidden schedule keeps.
 struct Drawing {
@@ -103,6 +90,16 @@ int64_t number(const uint8_t *at) {
     return static_cast<int64_t>(at[0]) | at[1] << 8 | at[2] << 16 | static_cast<int64_t>(at[3]) << 24;
 }
 
+// A list of names: its count, then each name after its length.
+std::vector<uint8_t> name_list(const std::vector<std::string> &names) {
+    std::vector<uint8_t> bytes = {static_cast<uint8_t>(names.size()), 0};
+    for (const std::string &name : names) {
+        bytes.push_back(static_cast<uint8_t>(name.size()));
+        bytes.insert(bytes.end(), name.begin(), name.end());
+    }
+    return bytes;
+}
+
 }  // namespace
 
 const std::vector<std::string> structures = {"session", "dense", "chain", "diamonds", "ring", "precedence"};
@@ -134,6 +131,50 @@ Ticket make_ticket(const std::string &structure, int events, int rules, uint64_t
     for (Rule &rule : d.ticket.rules) rule.bound = std::clamp<int64_t>(rule.bound, -1000000, 1000000);
     if (times) *times = d.time;
     return d.ticket;
+}
+
+Ticket full_ticket(const std::string &structure, uint64_t seed, std::vector<int64_t> *times) {
+    Ticket ticket = make_ticket(structure, BEYUNLAK_EVENTS_MAX, BEYUNLAK_RULES_MAX, seed, times);
+    for (size_t k = 0; ticket.rules.size() < BEYUNLAK_RULES_MAX; k++) {
+        Rule rule = ticket.rules[k];
+        rule.bound = std::min<int64_t>(rule.bound + static_cast<int64_t>(1000 * (k % 10 + 1)), BEYUNLAK_BOUND_MAX);
+        ticket.rules.push_back(rule);
+    }
+    return ticket;
+}
+
+Ticket of_one_device(Ticket ticket, int device) {
+    std::fill(ticket.owners.begin(), ticket.owners.end(), device);
+    return ticket;
+}
+
+Ticket mirrored(const Ticket &ticket) {
+    Ticket mirror = ticket;
+    for (Rule &rule : mirror.rules) {
+        if (rule.from == 0) rule.bound -= ticket.horizon;
+        if (rule.to == 0) rule.bound += ticket.horizon;
+        rule.bound = std::min<int64_t>(rule.bound, BEYUNLAK_BOUND_MAX);
+        std::swap(rule.from, rule.to);
+    }
+    return mirror;
+}
+
+Ticket closed_by_one(Ticket ticket) {
+    const auto in_range = [](const Rule &rule) { return rule.bound < BEYUNLAK_BOUND_MAX; };
+    const Rule rule = *std::find_if(ticket.rules.begin(), ticket.rules.end(), in_range);
+    if (ticket.rules.size() == BEYUNLAK_RULES_MAX) ticket.rules.pop_back();
+    ticket.rules.push_back({rule.to, rule.from, -rule.bound - 1});
+    return ticket;
+}
+
+Ticket closed_through_all(Ticket ticket, const std::vector<int64_t> &times) {
+    const size_t points = times.size();
+    ticket.rules.resize(std::min(ticket.rules.size(), BEYUNLAK_RULES_MAX - points));
+    for (size_t p = 0; p < points; p++) {
+        const size_t next = (p + 1) % points;
+        ticket.rules.push_back({static_cast<int>(p), static_cast<int>(next), times[next] - times[p] - (p == 0)});
+    }
+    return ticket;
 }
 
 std::vector<uint8_t> ticket_bytes(const Ticket &ticket) {
@@ -174,6 +215,14 @@ Ticket ticket_of(const std::vector<uint8_t> &bytes) {
     }
     return ticket;
 }
+
+std::vector<uint8_t> labels_of(int events) {
+    std::vector<std::string> names;
+    for (int k = 0; k < events; k++) names.push_back(std::string("event") + char('a' + k / 26) + char('a' + k % 26));
+    return name_list(names);
+}
+
+const std::vector<uint8_t> roster = name_list({"camera", "filterwheel", "lamps", "stage", "database"});
 
 Windows record_windows(const Ticket &ticket, const std::vector<uint8_t> &record) {
     const uint8_t *at = record.data() + 8 + ticket.events() + 6 * ticket.rules.size() + 2;
