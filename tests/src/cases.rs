@@ -451,7 +451,7 @@ fn lengths(trial: &mut Trial) {
         trial.table_after(&ticket, count, out);
     }
     for out in [0, 1, bytes.len() - 1, bytes.len(), 4_000] {
-        for scratch in [0, 1, 2_400, 20_000] {
+        for scratch in [0, 1, 1_824, 8_191, 8_192, 20_000] {
             for prefer in BOTH {
                 trial.plan(prefer, &ticket, Lengths { out, scratch });
                 trial.plan(prefer, &[], Lengths { out, scratch });
@@ -1000,7 +1000,15 @@ fn some_length(least: usize, random: &mut Random) -> usize {
 }
 
 fn some_lengths(random: &mut Random) -> Lengths {
-    Lengths { out: some_length(calls::RECORD, random), scratch: some_length(calls::SCRATCH, random) }
+    Lengths { out: some_length(calls::RECORD, random), scratch: some_scratch(random) }
+}
+
+/// Half of those far above the least are 8,192, the least before 02, change 9.
+fn some_scratch(random: &mut Random) -> usize {
+    match some_length(calls::SCRATCH, random) {
+        length if length > calls::SCRATCH + 1 && length % 2 == 0 => 8_192,
+        length => length,
+    }
 }
 
 fn some_outputs(random: &mut Random) -> Outputs {

@@ -11,6 +11,7 @@ use crate::model::{
 use crate::narrowing_faults::{self, NarrowingFault};
 use crate::parts_faults::{self, LineFault, PartFault};
 use crate::reason_faults::{self, ReasonFault};
+use crate::scratch_faults::{self, Call, ScratchFault};
 use crate::stop_faults::{self, StopFault};
 use crate::weight_faults::{self, WeightFault};
 
@@ -96,9 +97,11 @@ pub enum Fault {
     Parts(PartFault),
     /// A fault of the line of part totals.
     Line(LineFault),
+    /// A fault of what a call makes of the lent scratch.
+    Scratch(ScratchFault, Call),
 }
 
-/// All faults but those of reasons, of stops, of narrowing again, of counts, of mending, of weights and of parts.
+/// All faults but those of reasons, of stops, of narrowing again, of counts, of mending, of weights, of parts and of scratch.
 pub const FAULTS: [Fault; 32] = [
     Fault::RefusesAll,
     Fault::OnePlan,
@@ -397,7 +400,12 @@ impl Library for Faulty {
 
     fn plan(&self, prefer: Prefer, ticket: &[u8], out: &mut [u8], scratch: &mut [u32]) -> Answer {
         let before = scratch.to_vec();
-        let answer = self.delivered(|| self.planned(prefer, ticket), out, scratch);
+        let answer = match self.fault {
+            Fault::Scratch(fault, call) if call == Call::planning(prefer) => {
+                scratch_faults::deliver(fault, || self.planned(prefer, ticket), out, scratch)
+            }
+            _ => self.delivered(|| self.planned(prefer, ticket), out, scratch),
+        };
         if self.fault == Fault::LatestDirtyScratch && prefer == Prefer::Latest {
             scratch.copy_from_slice(&before);
         }
@@ -406,7 +414,12 @@ impl Library for Faulty {
 
     fn commit(&self, record: &[u8], commitment: Commitment, out: &mut [u8], scratch: &mut [u32]) -> Answer {
         let before = scratch.to_vec();
-        let mut answer = self.delivered(|| self.committed(record, commitment), out, scratch);
+        let mut answer = match self.fault {
+            Fault::Scratch(fault, Call::Commit) => {
+                scratch_faults::deliver(fault, || self.committed(record, commitment), out, scratch)
+            }
+            _ => self.delivered(|| self.committed(record, commitment), out, scratch),
+        };
         match self.fault {
             Fault::Narrowing(fault) if answer.number == 18 => match fault {
                 NarrowingFault::FullLength => answer.length = record.len() as u32,

@@ -35,17 +35,37 @@ impl Element for i32 {
     }
 }
 
+/// What lent memory holds before a call.
+#[derive(Clone, Copy, Debug, PartialEq, Eq)]
+pub enum Pattern {
+    Random,
+    AllSet,
+    AllClear,
+}
+
+pub const PATTERNS: [Pattern; 3] = [Pattern::Random, Pattern::AllSet, Pattern::AllClear];
+
+impl Pattern {
+    /// Every other one is random.
+    pub fn drawn(random: &mut Random) -> Pattern {
+        match random.below(4) {
+            0 => Pattern::AllSet,
+            1 => Pattern::AllClear,
+            _ => Pattern::Random,
+        }
+    }
+}
+
 impl<T: Element> Lent<T> {
-    /// A slice of `length` elements in one of three patterns: random, all bits set, all bits clear.
-    pub fn new(length: usize, random: &mut Random) -> Lent<T> {
-        let pattern = random.below(4);
+    /// A slice of `length` elements in this pattern.
+    pub fn new(length: usize, pattern: Pattern, random: &mut Random) -> Lent<T> {
         let mut start = random.next();
         let mut element = || {
             start = start.wrapping_mul(6_364_136_223_846_793_005).wrapping_add(1_442_695_040_888_963_407);
             T::of(match pattern {
-                0 => u64::MAX,
-                1 => 0,
-                _ => start >> 24,
+                Pattern::Random => start >> 24,
+                Pattern::AllSet => u64::MAX,
+                Pattern::AllClear => 0,
             })
         };
         let before: Vec<T> = (0..length + 2 * MARGIN).map(|_| element()).collect();

@@ -16,6 +16,7 @@ mod narrowing_faults;
 mod parts_faults;
 mod random;
 mod reason_faults;
+mod scratch_faults;
 mod script;
 mod solvers;
 mod stop_faults;
@@ -32,6 +33,7 @@ use model::Prefer;
 use narrowing_faults::NARROWING_FAULTS;
 use parts_faults::{LINE_FAULTS, PART_FAULTS};
 use reason_faults::REASON_FAULTS;
+use scratch_faults::{CALLS, SCRATCH_FAULTS};
 use std::io::Read;
 use std::sync::atomic::{AtomicU64, Ordering};
 use std::sync::Mutex;
@@ -84,6 +86,7 @@ tests/run one KIND SEED              one case: tiny structures runs foreign dama
 tests/run solvers SEED COUNT         the solvers of the model against each other
 tests/run self-check                 libraries with a planted fault: each has to be caught
 tests/run script                     what the model answers to the stored script crates/cases/stdin
+tests/run runs                       tests/runs.txt anew: what the library answers to the stored runs
 tests/run print [latest] <TICKET     what the program has to print, by the model";
 
 #[cfg(linked)]
@@ -257,7 +260,8 @@ fn self_check() -> i32 {
     let of_records = NARROWING_FAULTS.map(Fault::Narrowing).into_iter().chain(COUNTS_FAULTS.map(Fault::Counts));
     let others = MENDING_FAULTS.map(Fault::Mending).into_iter().chain(WEIGHT_FAULTS.map(Fault::Weights));
     let of_parts = PART_FAULTS.map(Fault::Parts).into_iter().chain(LINE_FAULTS.map(Fault::Line));
-    for fault in FAULTS.into_iter().chain(of_calls).chain(of_records).chain(others).chain(of_parts) {
+    let of_scratch = SCRATCH_FAULTS.into_iter().flat_map(|fault| CALLS.map(|call| Fault::Scratch(fault, call)));
+    for fault in FAULTS.into_iter().chain(of_calls).chain(of_records).chain(others).chain(of_parts).chain(of_scratch) {
         let library = Faulty { fault };
         let mut caught: Vec<String> = Vec::new();
         for case in &stored::CASES {
@@ -345,6 +349,10 @@ fn main() {
         ["one", kind, seed] => number(seed).map_or(2, |seed| one(library(), kind, seed)),
         ["script"] => {
             print!("{}", script::answers());
+            0
+        }
+        ["runs"] => {
+            print!("{}", stored::runs::printed(library()));
             0
         }
         ["print"] => print(Prefer::Earliest),

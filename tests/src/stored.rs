@@ -6,6 +6,8 @@ mod mending;
 mod narrowing;
 mod parts;
 mod reasons;
+pub mod runs;
+mod scratch;
 mod stops;
 mod weights;
 
@@ -17,7 +19,7 @@ use crate::trial::{Lengths, Report, Trial, ENOUGH};
 /// A name and what it tries.
 type Case = (&'static str, fn(&mut Stored));
 
-pub const CASES: [Case; 88] = [
+pub const CASES: [Case; 91] = [
     ("01, P1 and P2", example_1_2),
     ("01, P3", example_3),
     ("01, P4 and P5", example_4_5),
@@ -94,6 +96,9 @@ pub const CASES: [Case; 88] = [
     ("02, change 8: a session", parts::session),
     ("02, change 8: 40 events", parts::forty),
     ("02, change 8: refusals in their order", parts::refusals),
+    ("02, change 9: lengths and contents of scratch", scratch::lengths),
+    ("02, change 9: points raised many times", scratch::raised_often),
+    ("02, change 9: stored runs", runs::replay),
     ("000, examples 1 and 2: trains", trains),
     ("000, example 3: earliest to latest", trains_earliest_to_latest),
     ("000, examples 4 to 6: a train commits", trains_commitment),

@@ -1,8 +1,8 @@
-//! One call at a time: the library's answer and all the memory it was lent, against what the model says.
+//! One call at a time: the library's answer and all the memory it was lent, against what the model says or what is stored.
 
-use crate::lent::{Element, Lent};
+use crate::lent::{Element, Lent, Pattern};
 use crate::library::Library;
-use crate::model::calls::{self, Answer, Asked, Loose, LooseRecord, Outcome};
+use crate::model::calls::{self, Answer, Asked, Delivery, Loose, LooseRecord};
 use crate::model::rings::{self, Step};
 use crate::model::stops::NO_PATH;
 use crate::model::{reading, reason, text, writing, Commitment, Prefer, Record, Rule, Solver, Ticket, Window, DEVICES};
@@ -20,11 +20,12 @@ pub struct Report {
     pub differences: Vec<String>,
 }
 
-/// A library under trial, and the report so far.
+/// A library under trial, and the report so far. What is lent holds the pattern before each call; none: a drawn one.
 pub struct Trial<'a> {
     library: &'a dyn Library,
     pub random: Random,
     pub solver: Solver,
+    pub pattern: Option<Pattern>,
     pub report: Report,
 }
 
@@ -52,7 +53,8 @@ pub fn hex(bytes: &[u8]) -> String {
 
 impl<'a> Trial<'a> {
     pub fn new(library: &'a dyn Library, seed: u64) -> Trial<'a> {
-        Trial { library, random: Random::new(seed), solver: Solver::Flow, report: Report::default() }
+        let random = Random::new(seed);
+        Trial { library, random, solver: Solver::Flow, pattern: None, report: Report::default() }
     }
 
     /// Notes a difference unless `holds`.
@@ -63,7 +65,8 @@ impl<'a> Trial<'a> {
     }
 
     fn lend<T: Element>(&mut self, length: usize) -> Lent<T> {
-        Lent::new(length, &mut self.random)
+        let pattern = self.pattern.unwrap_or_else(|| Pattern::drawn(&mut self.random));
+        Lent::new(length, pattern, &mut self.random)
     }
 
     fn count(&mut self, number: u32) {
@@ -71,11 +74,11 @@ impl<'a> Trial<'a> {
         self.report.numbers[number as usize] += 1;
     }
 
-    /// Planning and commitment: answer, record, rest of the output, scratch; then the C door.
-    /// What the library wrote, if the model accepts.
+    /// Planning and commitment: answer, record, rest of the output, scratch; then the C door. Expected is what holds with
+    /// enough memory. What the library wrote, if it has to accept.
     fn planning(
         &mut self,
-        expected: &Outcome,
+        expected: &Delivery,
         lengths: Lengths,
         call: &dyn Fn() -> String,
         lent: &dyn Fn(&mut [u8], &mut [u32]) -> Answer,
@@ -85,45 +88,34 @@ impl<'a> Trial<'a> {
         let mut scratch: Lent<u32> = self.lend(lengths.scratch);
         let answer = lent(out.slice(), scratch.slice());
         let short = lengths.out < calls::RECORD || lengths.scratch < calls::SCRATCH;
-        let (number, record, total) = match expected {
-            _ if short => (10, Vec::new(), 0),
-            Err(number) => (*number, Vec::new(), 0),
-            Ok((record, total)) => (0, writing::record(record), *total as u32),
-        };
-        self.count(number);
-        let length = record.len();
-        let expected_answer = Answer { number, length: length as u32, total };
-        self.expect(answer == expected_answer, "answer", || {
+        let too_short = Delivery::of(&Err(10));
+        let Delivery { answer: expected_answer, record } = if short { &too_short } else { expected };
+        self.count(expected_answer.number);
+        self.expect(answer == *expected_answer, "answer", || {
             format!("{} answered {answer:?}, expected {expected_answer:?}", call())
         });
-        let written = out.first(length).to_vec();
-        self.expect(written == record, "record", || {
-            format!("{} wrote {}, expected {}", call(), hex(&written), hex(&record))
+        let written = out.first(record.len()).to_vec();
+        self.expect(written == *record, "record", || {
+            format!("{} wrote {}, expected {}", call(), hex(&written), hex(record))
         });
-        self.expect(out.untouched_after(length), "rest of the output", call);
+        self.expect(out.untouched_after(record.len()), "rest of the output", call);
         let cleared = if short { 0 } else { calls::SCRATCH };
         let zero = scratch.first(cleared).iter().all(|&number| number == 0);
         self.expect(zero, "scratch not cleared", call);
         self.expect(scratch.untouched_after(cleared), "rest of the scratch", call);
         self.door(expected, lengths.out, call, door);
-        if number == 0 {
-            Some(written)
-        } else {
-            None
-        }
+        (expected_answer.number == 0).then_some(written)
     }
 
     /// The door has scratch of its own; length and total follow from the record.
-    fn door(&mut self, expected: &Outcome, length: usize, call: &dyn Fn() -> String, door: &dyn Fn(&mut [u8]) -> u32) {
+    fn door(&mut self, expected: &Delivery, length: usize, call: &dyn Fn() -> String, door: &dyn Fn(&mut [u8]) -> u32) {
         let mut out: Lent<u8> = self.lend(length);
         let answer = door(out.slice());
-        let (number, record) = match expected {
-            _ if length < calls::RECORD => (10, Vec::new()),
-            Err(number) => (*number, Vec::new()),
-            Ok((record, _)) => (0, writing::record(record)),
-        };
-        self.count(number);
-        self.expect(answer == number, "door's number", || format!("{} answered {answer}, expected {number}", call()));
+        let too_short = Delivery::of(&Err(10));
+        let Delivery { answer: Answer { number, .. }, record } =
+            if length < calls::RECORD { &too_short } else { expected };
+        self.count(*number);
+        self.expect(answer == *number, "door's number", || format!("{} answered {answer}, expected {number}", call()));
         self.expect(out.first(record.len()) == record, "door's record", call);
         self.expect(out.untouched_after(record.len()), "rest of the door's output", call);
     }
@@ -143,20 +135,38 @@ impl<'a> Trial<'a> {
     pub fn plan(&mut self, prefer: Prefer, ticket: &[u8], lengths: Lengths) -> Option<Vec<u8>> {
         let call = || format!("{prefer:?} plan {} with {lengths:?}", hex(ticket));
         let expected = self.expected(&call, |solver| calls::plan(ticket, prefer, solver));
+        self.plan_as(prefer, ticket, &Delivery::of(&expected), lengths)
+    }
+
+    /// Planning of these bytes, of which this is expected.
+    pub fn plan_as(&mut self, prefer: Prefer, ticket: &[u8], expected: &Delivery, lengths: Lengths) -> Option<Vec<u8>> {
+        let call = || format!("{prefer:?} plan {} with {lengths:?}", hex(ticket));
         let library = self.library;
         let lent = |out: &mut [u8], scratch: &mut [u32]| library.plan(prefer, ticket, out, scratch);
         let door = |out: &mut [u8]| library.plan_door(prefer, ticket, out);
-        self.planning(&expected, lengths, &call, &lent, &door)
+        self.planning(expected, lengths, &call, &lent, &door)
     }
 
     /// A commitment on these bytes; the record, if accepted.
     pub fn commit(&mut self, record: &[u8], commitment: Commitment, lengths: Lengths) -> Option<Vec<u8>> {
         let call = || format!("commit {commitment:?} on {} with {lengths:?}", hex(record));
         let expected = self.expected(&call, |solver| calls::commit(record, commitment, solver));
+        self.commit_as(record, commitment, &Delivery::of(&expected), lengths)
+    }
+
+    /// A commitment on these bytes, of which this is expected.
+    pub fn commit_as(
+        &mut self,
+        record: &[u8],
+        commitment: Commitment,
+        expected: &Delivery,
+        lengths: Lengths,
+    ) -> Option<Vec<u8>> {
+        let call = || format!("commit {commitment:?} on {} with {lengths:?}", hex(record));
         let library = self.library;
         let lent = |out: &mut [u8], scratch: &mut [u32]| library.commit(record, commitment, out, scratch);
         let door = |out: &mut [u8]| library.commit_door(record, commitment, out);
-        self.planning(&expected, lengths, &call, &lent, &door)
+        self.planning(expected, lengths, &call, &lent, &door)
     }
 
     /// The table of H, n and rules; what the output holds afterwards.

@@ -7,7 +7,7 @@ use super::{Commitment, Prefer, Record, Rule, Solver, Ticket, Window, DEVICES, M
 /// bytes of the output for a list of dropped rules, bytes of a part's output.
 pub const TICKET: usize = 1_584;
 pub const RECORD: usize = 1_958;
-pub const SCRATCH: usize = 8_192;
+pub const SCRATCH: usize = 2_400;
 pub const TABLE: usize = 1_681;
 pub const REASON: usize = 2_200;
 pub const DROPPED: usize = 514;
@@ -85,20 +85,35 @@ pub fn commit(bytes: &[u8], commitment: Commitment, solver: Solver) -> Outcome {
     Ok((record, total))
 }
 
+/// What planning or a commitment answers with enough memory, and the record that it writes.
+#[derive(Clone, Debug, PartialEq, Eq)]
+pub struct Delivery {
+    pub answer: Answer,
+    pub record: Vec<u8>,
+}
+
+impl Delivery {
+    pub fn of(outcome: &Outcome) -> Delivery {
+        match outcome {
+            Err(number) => Delivery { answer: refused(*number), record: Vec::new() },
+            Ok((record, total)) => {
+                let record = writing::record(record);
+                let answer = Answer { number: 0, length: record.len() as u32, total: *total as u32 };
+                Delivery { answer, record }
+            }
+        }
+    }
+}
+
 /// Writes an outcome to a lent output and clears the scratch, as planning and commitment do.
 pub fn deliver(outcome: impl FnOnce() -> Outcome, out: &mut [u8], scratch: &mut [u32]) -> Answer {
     if out.len() < RECORD || scratch.len() < SCRATCH {
         return refused(10);
     }
     scratch[..SCRATCH].fill(0);
-    match outcome() {
-        Err(number) => refused(number),
-        Ok((record, total)) => {
-            let bytes = writing::record(&record);
-            out[..bytes.len()].copy_from_slice(&bytes);
-            Answer { number: 0, length: bytes.len() as u32, total: total as u32 }
-        }
-    }
+    let Delivery { answer, record } = Delivery::of(&outcome());
+    out[..record.len()].copy_from_slice(&record);
+    answer
 }
 
 /// The ticket that a table is asked for, owners left out; or 2, 3, 5, 6, 7.
