@@ -1,10 +1,11 @@
 -- The calls on bytes, planning, the latest plan and commitment, and runs of them. Rests on `temporal` (what is decided) and `ticket` (what bytes hold; its
 -- `Bytes`, in RoundTrip, says that a list is one of bytes); no code stands here.
 --
--- Believe two files, in this order, and the three statements at the head of Latest; everything else is proved of them.
+-- Believe two files, in this order, and the three statements at the head of Latest and of Scratch; everything else is proved of them.
 --   Calls     the calls as functions of all they are lent: what is returned, what output and scratch hold afterwards
 --   Run       what 01's section "A run" claims, with 02's changes 4 and 5, for any start and any list of commitments
 --   Latest    what 02's change 1 claims of the latest plan: `PlannedLatest`, `RunLatest`, `AsPlanning`
+--   Scratch   what 02's change 9 claims of lent scratch: `Short`, `Alike`, `Leaves`
 -- The theorems:
 --   RunHolds    `run`, of every start and every list. It answers demand 3.
 --   Refusals    a call refuses exactly where a cause applies, under the number of the first (`plan-refusal`, `commit-refusal`, `commit-accepted`), never under

@@ -154,7 +154,7 @@ zeroed-drop : (n : ℕ) (xs : List ℕ) → drop n (zeroed n xs) ≡ drop n xs
 unfolding zeroed
 zeroed-drop n xs = drop-at (replicate n 0) (drop n xs) n (length-replicate n 0)
 
-pub answered-clears : (out scratch : List ℕ) (a : Answer) → answered out scratch a .scratch ≡ cleared scratch
+answered-clears : (out scratch : List ℕ) (a : Answer) → answered out scratch a .scratch ≡ cleared scratch
 answered-clears out scratch (Answer.refused r) = refl
 answered-clears out scratch (Answer.accepted s) = refl
 
