@@ -12,7 +12,7 @@ use lib.Dec.{T, leb, leb→le, le→leb, nleb→lt}
 use lib.IntN.{ℤ, pos, negsuc, _+ℤ_, _-ℤ_}
 use lib.Signed.{leZ, _≤ℤ_}
 use lib.ListN.{length, length-map}
-use Rattle.temporal.specs.Lists.{All, All-map, All-map₂, All-at}
+use Rattle.temporal.specs.Lists.{All, All-map, All-map₂, map-All, All-mapped, All-at}
 use Rattle.temporal.specs.Bound.{AtMost, above, below, signed}
 use Rattle.temporal.specs.Ticket.{Rule, Ticket, events, time, Schedule, Window, Fit, fits}
 use Rattle.temporal.specs.Ends.{fits-fit, fit-fits}
@@ -23,7 +23,7 @@ use Rattle.temporal.specs.FitSets.{fits-closed}
 use Rattle.temporal.specs.Run.{ValidRule, Valid}
 use Rattle.temporal.specs.RunHolds.{planned-chosen}
 use Rattle.mirror.specs.Mirror.{mirrorBound, mirrorRule, mirror, mirrorWindows, ProperRule, Proper, proper-distinct, proper-mirror}
-use Rattle.mirror.specs.Mirror.{map-All, All-mapped, signs-plus, signs-minus, consistent-same, consistent-mirror}
+use Rattle.mirror.specs.Mirror.{signs-plus, signs-minus, consistent-same, consistent-mirror}
 use Rattle.mirror.specs.LatestMirror.{latest-mirror}
 
 -- ---- the definitions

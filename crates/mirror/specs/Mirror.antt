@@ -9,7 +9,7 @@ use native.Mathlib.Omega.{arith}
 use lib.Dec.{T, ltb, ltb→lt, nltb→le}
 use lib.IntN.{ℤ, pos, negsuc, subℕ, _+ℤ_, _-ℤ_, +ℤ-negℤ-cancel, -ℤ-+ℤ-cancel}
 use lib.ListN.{length, length-map}
-use Rattle.temporal.specs.Lists.{All, All-map, All-map₂, All-at, at-All, ∈-All}
+use Rattle.temporal.specs.Lists.{All, All-map, All-map₂, map-All, All-mapped, All-at, at-All, ∈-All}
 use Rattle.temporal.specs.Bound.{AtMost, above, below, signed}
 use Rattle.temporal.specs.Ticket.{Rule, Ticket, events, Distinct, time, Schedule, Window, origin, windowOf, Lies, Fit, weight, totalOf}
 use Rattle.temporal.specs.Ends.{Ends, ends-fit, fit-ends}
@@ -54,17 +54,6 @@ Proper k = All (ProperRule (events k)) (k .rules)
 
 pub proper-distinct : (k : Ticket) → Proper k → Distinct k
 proper-distinct k p = All-map (λ r h. h .2) (k .rules) p
-
--- ---- what holds of every element of a mapped list
-
-module _ {A B : Type 0} (P : B → Type 0) (f : A → B) where
-  pub map-All : (xs : List A) → All (λ x. P (f x)) xs → All P (map f xs)
-  map-All [] h = tt
-  map-All (x ∷ xs) h = (h .0, map-All xs (h .1))
-
-  pub All-mapped : (xs : List A) → All P (map f xs) → All (λ x. P (f x)) xs
-  All-mapped [] h = tt
-  All-mapped (x ∷ xs) h = (h .0, All-mapped xs (h .1))
 
 pub proper-mirror : (k : Ticket) → Proper k → Proper (mirror k)
 proper-mirror k p = map-All (ProperRule (events k)) (mirrorRule (k .horizon)) (k .rules)
