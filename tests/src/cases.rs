@@ -4,6 +4,7 @@ use crate::generate::{self, Structure, DEVICE_SETS, STRUCTURES};
 use crate::impossible::{self, ALL_SHAPES, SHAPES};
 use crate::library::Library;
 use crate::model::calls::{self, Asked, Loose, LooseRecord};
+use crate::model::finer::{Allowed, Finer, Grid};
 use crate::model::{exhaustive, flags, parts, reading, rings, writing};
 use crate::model::{Commitment, Prefer, Record, Rule, Solver, Ticket, Window};
 use crate::model::{BOTH, DEVICES, MOST_ACCEPTED};
@@ -70,18 +71,23 @@ pub enum Kind {
     PartsSeparate,
     /// Parts of tickets whose events are one device's: that device's is the plan, most of them with 40 events and 256 rules.
     PartsOneDevice,
+    /// Both plans and commitments, against the widest windows on grids of 2 to 7 parts to a tick.
+    Finer,
+    /// The same on tiny tickets, expected answers and widest windows by exhaustive search, these where the lists are few.
+    FinerTiny,
 }
 
-/// What the calls of a kind are about: reasons, mending and parts have kinds of their own.
+/// What the calls of a kind are about: reasons, mending, parts and finer grids have kinds of their own.
 #[derive(Clone, Copy, Debug, PartialEq, Eq)]
 pub enum Subject {
     Reasons,
     Mending,
     Parts,
+    Finer,
     Others,
 }
 
-pub const KINDS: [Kind; 29] = [
+pub const KINDS: [Kind; 31] = [
     Kind::Tiny,
     Kind::Structures,
     Kind::Runs,
@@ -111,6 +117,8 @@ pub const KINDS: [Kind; 29] = [
     Kind::PartsBytes,
     Kind::PartsSeparate,
     Kind::PartsOneDevice,
+    Kind::Finer,
+    Kind::FinerTiny,
 ];
 
 impl Kind {
@@ -145,6 +153,8 @@ impl Kind {
             Kind::PartsBytes => "parts-bytes",
             Kind::PartsSeparate => "parts-separate",
             Kind::PartsOneDevice => "parts-one-device",
+            Kind::Finer => "finer",
+            Kind::FinerTiny => "finer-tiny",
         }
     }
 
@@ -155,10 +165,12 @@ impl Kind {
     /// The kind that a long run tries at this seed.
     pub fn at(seed: u64) -> Kind {
         match Random::new(seed ^ 0x6b69_6e64).below(1_000) {
-            0..=69 => Kind::Tiny,
+            0..=59 => Kind::Tiny,
+            60..=69 => Kind::FinerTiny,
             70..=84 => Kind::WeightsTiny,
             85..=99 => Kind::PartsTiny,
-            100..=174 => Kind::Structures,
+            100..=164 => Kind::Structures,
+            165..=174 => Kind::Finer,
             175..=199 => Kind::Weights,
             200..=219 => Kind::Parts,
             220..=227 => Kind::PartsSeparate,
@@ -194,6 +206,7 @@ impl Kind {
             Kind::Parts | Kind::PartsTiny | Kind::PartsBytes | Kind::PartsSeparate | Kind::PartsOneDevice => {
                 Subject::Parts
             }
+            Kind::Finer | Kind::FinerTiny => Subject::Finer,
             _ => Subject::Others,
         }
     }
@@ -217,6 +230,7 @@ impl Kind {
             Kind::Weights | Kind::WeightsTiny => &[0, 9, 10, 11, 13],
             Kind::Parts | Kind::PartsBytes => &[0, 1, 2, 3, 4, 5, 6, 7, 8, 9, 10],
             Kind::PartsTiny | Kind::PartsSeparate | Kind::PartsOneDevice => &[0, 4, 9, 10],
+            Kind::Finer | Kind::FinerTiny => &[0, 9, 18],
             _ => &[],
         }
     }
@@ -224,7 +238,13 @@ impl Kind {
 
 /// The case of this kind at this seed.
 pub fn run(kind: Kind, seed: u64, library: &dyn Library) -> Report {
+    run_on(&Finer, kind, seed, library)
+}
+
+/// The case with this grid in the finer one's place.
+pub fn run_on(grid: &dyn Grid, kind: Kind, seed: u64, library: &dyn Library) -> Report {
     let mut trial = Trial::new(library, seed);
+    trial.grid = grid;
     match kind {
         Kind::Tiny => tiny(&mut trial),
         Kind::Structures => structures(&mut trial, seed),
@@ -255,6 +275,8 @@ pub fn run(kind: Kind, seed: u64, library: &dyn Library) -> Report {
         Kind::PartsBytes => parts_bytes(&mut trial, seed),
         Kind::PartsSeparate => parts_separate(&mut trial),
         Kind::PartsOneDevice => parts_one_device(&mut trial, seed),
+        Kind::Finer => finer(&mut trial),
+        Kind::FinerTiny => finer_tiny(&mut trial),
     }
     trial.report
 }
@@ -839,6 +861,60 @@ fn parts_one_device(trial: &mut Trial, seed: u64) {
     let device = random.below(DEVICES) as u8;
     let ticket = generate::owned_by(&[device], ticket, random);
     parts_of(trial, &ticket);
+}
+
+/// A ticket of one of the ten structures, in half of the cases shared out among some devices.
+fn finer(trial: &mut Trial) {
+    let random = &mut trial.random;
+    let (n, horizon) = generate::size(random);
+    let structure = random.pick(&STRUCTURES);
+    let mut ticket = generate::ticket(structure, n, horizon, random);
+    if random.chance(50) {
+        ticket = generate::owned_by(random.pick(&DEVICE_SETS), ticket, random);
+    }
+    refine(trial, ticket);
+}
+
+fn finer_tiny(trial: &mut Trial) {
+    trial.solver = Solver::Exhaustive;
+    let ticket = generate::tiny_of(&generate::TINIEST, &mut trial.random);
+    refine(trial, ticket);
+}
+
+/// Both plans of a ticket, commitments on them, and commitments on a record of it from elsewhere with fit windows, each held
+/// against finer grids.
+fn refine(trial: &mut Trial, ticket: Ticket) {
+    for prefer in BOTH {
+        let record = trial.plan(prefer, &writing::ticket(&ticket), ENOUGH);
+        trial.wins_nothing(Allowed::Any(&ticket), prefer);
+        if let Some(record) = record {
+            refine_commitments(trial, record);
+        }
+    }
+    if let Some(windows) = generate::fit_windows(&ticket, &mut trial.random) {
+        let record = generate::flagged(ticket, windows, &mut trial.random);
+        refine_commitments(trial, writing::record(&record));
+    }
+}
+
+/// Up to 3 commitments that may be accepted, one after the other.
+fn refine_commitments(trial: &mut Trial, start: Vec<u8>) {
+    let mut bytes = start;
+    for _ in 0..3 {
+        let Ok(record) = reading::record(&bytes) else {
+            trial.report.differences.push("an unreadable record was written".to_string());
+            return;
+        };
+        if record.windows.is_empty() {
+            return;
+        }
+        let commitment = generate::commitment(&record, AGAIN, &mut trial.random);
+        let after = trial.commit(&bytes, commitment, ENOUGH);
+        trial.wins_nothing(Allowed::After(&record, commitment), Prefer::Earliest);
+        let Some(after) = after else { continue };
+        trial.follows(&record, commitment, &after);
+        bytes = after;
+    }
 }
 
 /// What a ticket is made of, not all of it in range.

@@ -137,6 +137,16 @@ pub const FAULTS: [Fault; 32] = [
     Fault::PrintsEarliest,
 ];
 
+/// Faults that only make an answer less: fit windows that are not the widest, with the right total of these, in all answers, in
+/// a latest plan or after a commitment; and 9 where there is a schedule.
+pub const GIVING_LESS: [Fault; 5] = [
+    Fault::Weights(WeightFault::ChoiceOfOne),
+    Fault::Weights(WeightFault::LatestOfOne),
+    Fault::Weights(WeightFault::CommitsOfOne),
+    Fault::NoWidening,
+    Fault::RefusesZeroRing,
+];
+
 pub struct Faulty {
     pub fault: Fault,
 }

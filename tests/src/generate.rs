@@ -299,8 +299,18 @@ pub fn separate(n: usize, horizon: u32, random: &mut Random) -> Ticket {
 
 /// At most 4 events over few ticks: every set of windows can be tried.
 pub fn tiny(random: &mut Random) -> Ticket {
-    let (n, horizon) =
-        random.pick(&[(0, 3), (1, 6), (1, 0), (2, 4), (2, 7), (2, 1), (3, 3), (3, 4), (3, 5), (4, 2), (4, 1)]);
+    let sizes = [(0, 3), (1, 6), (1, 0), (2, 4), (2, 7), (2, 1), (3, 3), (3, 4), (3, 5), (4, 2), (4, 1)];
+    tiny_of(&sizes, random)
+}
+
+/// Numbers of events and horizons so small that every set of windows can be tried when a tick has 2 parts, and in six of them
+/// up to 7.
+pub const TINIEST: [(usize, u32); 11] =
+    [(0, 3), (1, 0), (1, 3), (1, 6), (2, 1), (2, 2), (2, 3), (2, 4), (3, 1), (3, 2), (4, 1)];
+
+/// A ticket with one of these numbers of events and horizons.
+pub fn tiny_of(sizes: &[(usize, u32)], random: &mut Random) -> Ticket {
+    let (n, horizon) = random.pick(sizes);
     let structure = random.pick(&STRUCTURES);
     if structure != Structure::Ends && random.chance(60) {
         return ticket(structure, n, horizon, random);

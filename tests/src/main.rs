@@ -4,6 +4,7 @@ mod cases;
 mod counts_faults;
 mod faults;
 mod generate;
+mod grid_faults;
 mod impossible;
 mod lent;
 mod library;
@@ -26,9 +27,11 @@ mod weight_faults;
 
 use cases::{Kind, Subject, KINDS};
 use counts_faults::COUNTS_FAULTS;
-use faults::{Fault, Faulty, FAULTS};
+use faults::{Fault, Faulty, FAULTS, GIVING_LESS};
+use grid_faults::{FaultyGrid, GRID_FAULTS};
 use library::Library;
 use mending_faults::MENDING_FAULTS;
+use model::finer::{Finer, Grid};
 use model::Prefer;
 use narrowing_faults::NARROWING_FAULTS;
 use parts_faults::{LINE_FAULTS, PART_FAULTS};
@@ -39,11 +42,11 @@ use std::sync::atomic::{AtomicU64, Ordering};
 use std::sync::Mutex;
 use std::time::Instant;
 use stop_faults::STOP_FAULTS;
-use trial::{Report, NUMBERS};
+use trial::{Report, NUMBERS, WINS};
 use weight_faults::WEIGHT_FAULTS;
 
 /// How many seeds of each kind the quick part tries.
-const QUICK: [(Kind, u64); 29] = [
+const QUICK: [(Kind, u64); 31] = [
     (Kind::Tiny, 3_000),
     (Kind::Structures, 3_000),
     (Kind::Runs, 100),
@@ -73,6 +76,8 @@ const QUICK: [(Kind, u64); 29] = [
     (Kind::PartsBytes, 2_000),
     (Kind::PartsSeparate, 1_000),
     (Kind::PartsOneDevice, 600),
+    (Kind::Finer, 400),
+    (Kind::FinerTiny, 500),
 ];
 
 const USAGE: &str = "\
@@ -82,9 +87,9 @@ tests/run long SEED COUNT [THREADS [KIND ..]]
 tests/run one KIND SEED              one case: tiny structures runs foreign damaged prefixes lengths values records text
                                      latest latest-tiny reason reason-tiny reason-lists stops narrowing
                                      narrowing-tiny counts mending mending-tiny mending-bytes weights weights-tiny
-                                     parts parts-tiny parts-bytes parts-separate parts-one-device
+                                     parts parts-tiny parts-bytes parts-separate parts-one-device finer finer-tiny
 tests/run solvers SEED COUNT         the solvers of the model against each other
-tests/run self-check                 libraries with a planted fault: each has to be caught
+tests/run self-check                 libraries and finer grids with a planted fault: each has to be caught
 tests/run script                     what the model answers to the stored script crates/cases/stdin
 tests/run runs                       tests/runs.txt anew: what the library answers to the stored runs
 tests/run print [latest] <TICKET     what the program has to print, by the model";
@@ -253,44 +258,68 @@ fn long(library: &dyn Library, seed: u64, count: u64, threads: usize, kinds: &[K
     all.last_line()
 }
 
-/// How the quick part finds each planted fault: the kinds of cases that show it.
-fn self_check() -> i32 {
-    let mut all = Tally::default();
+/// Every planted fault of a library.
+fn library_faults() -> Vec<Fault> {
     let of_calls = REASON_FAULTS.map(Fault::Reason).into_iter().chain(STOP_FAULTS.map(Fault::Stops));
     let of_records = NARROWING_FAULTS.map(Fault::Narrowing).into_iter().chain(COUNTS_FAULTS.map(Fault::Counts));
     let others = MENDING_FAULTS.map(Fault::Mending).into_iter().chain(WEIGHT_FAULTS.map(Fault::Weights));
     let of_parts = PART_FAULTS.map(Fault::Parts).into_iter().chain(LINE_FAULTS.map(Fault::Line));
     let of_scratch = SCRATCH_FAULTS.into_iter().flat_map(|fault| CALLS.map(|call| Fault::Scratch(fault, call)));
-    for fault in FAULTS.into_iter().chain(of_calls).chain(of_records).chain(others).chain(of_parts).chain(of_scratch) {
-        let library = Faulty { fault };
-        let mut caught: Vec<String> = Vec::new();
-        for case in &stored::CASES {
-            if !stored::run(case, &library).differences.is_empty() {
-                caught.push(format!("\"{}\"", case.0));
-                break;
-            }
-        }
-        let subject = match fault {
-            Fault::Reason(_) => Subject::Reasons,
-            Fault::Mending(_) => Subject::Mending,
-            Fault::Parts(_) => Subject::Parts,
-            _ => Subject::Others,
-        };
-        // Of the line of part totals the program alone knows.
-        let shows = |kind: &Kind| match fault {
-            Fault::Line(_) => *kind == Kind::Text,
-            _ => kind.subject() == subject,
-        };
-        for kind in KINDS.into_iter().filter(shows) {
-            let seeds = QUICK.iter().find(|(k, _)| *k == kind).map_or(0, |(_, count)| *count).min(300);
-            let first = (1..=seeds).find(|&seed| !cases::run(kind, seed, &library).differences.is_empty());
-            if let Some(seed) = first {
-                caught.push(format!("{} {seed}", kind.name()));
-            }
-        }
-        println!("{fault:?}: {}", if caught.is_empty() { "NOT CAUGHT".to_string() } else { caught.join(", ") });
+    FAULTS.into_iter().chain(of_calls).chain(of_records).chain(others).chain(of_parts).chain(of_scratch).collect()
+}
+
+/// The first seed of each of these kinds, out of some that the quick part tries, whose case shows a fault.
+fn shown(shows: impl Fn(&Kind) -> bool, is_shown: impl Fn(Kind, u64) -> bool) -> Vec<String> {
+    let seeds = |kind: Kind| QUICK.iter().find(|(k, _)| *k == kind).map_or(0, |(_, count)| *count).min(300);
+    let first = |kind: Kind| (1..=seeds(kind)).find(|&seed| is_shown(kind, seed));
+    let kinds = KINDS.into_iter().filter(shows);
+    kinds.filter_map(|kind| first(kind).map(|seed| format!("{} {seed}", kind.name()))).collect()
+}
+
+/// The stored case and the seeds that show a library's fault.
+fn finders(fault: Fault) -> Vec<String> {
+    let library = Faulty { fault };
+    let stored = stored::CASES.iter().find(|case| !stored::run(case, &library).differences.is_empty());
+    let subject = match fault {
+        Fault::Reason(_) => Subject::Reasons,
+        Fault::Mending(_) => Subject::Mending,
+        Fault::Parts(_) => Subject::Parts,
+        _ => Subject::Others,
+    };
+    // Of the line of part totals the program alone knows.
+    let shows = |kind: &Kind| match fault {
+        Fault::Line(_) => *kind == Kind::Text,
+        _ => kind.subject() == subject,
+    };
+    let seeds = shown(shows, |kind, seed| !cases::run(kind, seed, &library).differences.is_empty());
+    stored.map(|case| format!("\"{}\"", case.0)).into_iter().chain(seeds).collect()
+}
+
+/// The seeds whose cases find, by the question of finer grids alone, that this grid would win against this library.
+fn wins(grid: &dyn Grid, library: &dyn Library) -> Vec<String> {
+    let wins = |kind, seed| {
+        let report = cases::run_on(grid, kind, seed, library);
+        report.differences.iter().any(|difference| difference.starts_with(WINS))
+    };
+    shown(|kind| kind.subject() == Subject::Finer, wins)
+}
+
+/// How the quick part finds each planted fault: the kinds of cases that show it.
+fn self_check() -> i32 {
+    let mut all = Tally::default();
+    let mut note = |fault: String, caught: Vec<String>| {
+        println!("{fault}: {}", if caught.is_empty() { "NOT CAUGHT".to_string() } else { caught.join(", ") });
         all.passed += !caught.is_empty() as u64;
         all.failed += caught.is_empty() as u64;
+    };
+    for fault in library_faults() {
+        note(format!("{fault:?}"), finders(fault));
+    }
+    for fault in GIVING_LESS {
+        note(format!("{fault:?}, by finer grids alone"), wins(&Finer, &Faulty { fault }));
+    }
+    for fault in GRID_FAULTS {
+        note(format!("Grid({fault:?})"), wins(&FaultyGrid { fault }, &library::Model));
     }
     let sound = try_seeds(&library::Model, 1..101, 2, Kind::at);
     println!("the model itself: {} of 100 seeds differ", sound.failed);

@@ -3,6 +3,7 @@
 use crate::lent::{Element, Lent, Pattern};
 use crate::library::Library;
 use crate::model::calls::{self, Answer, Asked, Delivery, Loose, LooseRecord};
+use crate::model::finer::{Allowed, Finer, Grid, PARTS};
 use crate::model::rings::{self, Step};
 use crate::model::stops::NO_PATH;
 use crate::model::{reading, reason, text, writing, Commitment, Prefer, Record, Rule, Solver, Ticket, Window, DEVICES};
@@ -20,12 +21,15 @@ pub struct Report {
     pub differences: Vec<String>,
 }
 
-/// A library under trial, and the report so far. What is lent holds the pattern before each call; none: a drawn one.
+/// A library under trial, and the report so far. What is lent holds the pattern before each call; none: a drawn one. `last` is
+/// what the library answered to the last plan or commitment with lent scratch; the grid is what it is held against.
 pub struct Trial<'a> {
     library: &'a dyn Library,
+    pub grid: &'a dyn Grid,
     pub random: Random,
     pub solver: Solver,
     pub pattern: Option<Pattern>,
+    last: Option<Answer>,
     pub report: Report,
 }
 
@@ -47,14 +51,22 @@ pub struct Outputs {
 
 pub const LEAST: Outputs = Outputs { out: calls::TICKET, dropped: calls::DROPPED };
 
+/// How many lists of opens and closes are few enough to look at each.
+const FEW_LISTS: f64 = 66_000.0;
+
+/// A finer grid has wider windows than an answer, or has windows after 9.
+pub const WINS: &str = "a finer grid would win";
+/// A finer grid has no windows as wide as an answer.
+const LACKS: &str = "a finer grid lacks the plan";
+
 pub fn hex(bytes: &[u8]) -> String {
     bytes.iter().map(|byte| format!("{byte:02x}")).collect()
 }
 
 impl<'a> Trial<'a> {
     pub fn new(library: &'a dyn Library, seed: u64) -> Trial<'a> {
-        let random = Random::new(seed);
-        Trial { library, random, solver: Solver::Flow, pattern: None, report: Report::default() }
+        let (random, report) = (Random::new(seed), Report::default());
+        Trial { library, grid: &Finer, random, solver: Solver::Flow, pattern: None, last: None, report }
     }
 
     /// Notes a difference unless `holds`.
@@ -87,6 +99,7 @@ impl<'a> Trial<'a> {
         let mut out: Lent<u8> = self.lend(lengths.out);
         let mut scratch: Lent<u32> = self.lend(lengths.scratch);
         let answer = lent(out.slice(), scratch.slice());
+        self.last = Some(answer);
         let short = lengths.out < calls::RECORD || lengths.scratch < calls::SCRATCH;
         let too_short = Delivery::of(&Err(10));
         let Delivery { answer: expected_answer, record } = if short { &too_short } else { expected };
@@ -122,8 +135,17 @@ impl<'a> Trial<'a> {
 
     /// What the model says. Where it searches, flow has to say the same.
     fn expected<T: PartialEq + Debug>(&mut self, call: &dyn Fn() -> String, by: impl Fn(Solver) -> T) -> T {
-        let expected = by(self.solver);
-        if self.solver == Solver::Exhaustive {
+        self.expected_by(self.solver, call, by)
+    }
+
+    fn expected_by<T: PartialEq + Debug>(
+        &mut self,
+        solver: Solver,
+        call: &dyn Fn() -> String,
+        by: impl Fn(Solver) -> T,
+    ) -> T {
+        let expected = by(solver);
+        if solver == Solver::Exhaustive {
             let solved = by(Solver::Flow);
             let ways = || format!("{}: searched {expected:?}, by flow {solved:?}", call());
             self.expect(expected == solved, "the model's two ways", ways);
@@ -409,6 +431,25 @@ impl<'a> Trial<'a> {
         };
         let times: Vec<Window> = (1..size).map(|event| Window { open: time(event), close: time(event) }).collect();
         self.expect(given == times, "times of the database", call);
+    }
+
+    /// 02, change 10, of the last answer, by its number and total alone, whatever it wrote: on each grid of 2 to 7 parts to a tick
+    /// the widest of the windows that are allowed have no greater total, counted in parts, and no less, since the answer's own
+    /// are among them; after 9 there are none. Where the model searches, it does so while the lists to look at are few.
+    pub fn wins_nothing(&mut self, allowed: Allowed, prefer: Prefer) {
+        let grid = self.grid;
+        let Some(answer) = self.last.filter(|answer| [0, 9].contains(&answer.number)) else { return };
+        for q in PARTS {
+            let few = grid.lists(allowed, q) <= FEW_LISTS;
+            let solver = if few { self.solver } else { Solver::Flow };
+            let call = || format!("{q} parts to a tick of {allowed:?}, {prefer:?}, answered {answer:?}");
+            let widest = self.expected_by(solver, &call, |solver| grid.widest(allowed, prefer, q, solver));
+            let found = || format!("{}, the widest on the grid {widest:?}", call());
+            // None is less than any total.
+            let counted = (answer.number == 0).then_some(q as i64 * answer.total as i64);
+            self.expect(widest <= counted, WINS, found);
+            self.expect(widest >= counted, LACKS, found);
+        }
     }
 
     /// Number, length, bytes and rest of what is written; `what` says it. What the library wrote, if it accepts.

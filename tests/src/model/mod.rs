@@ -5,6 +5,7 @@
 pub mod calls;
 pub mod distances;
 pub mod exhaustive;
+pub mod finer;
 pub mod flow;
 pub mod mending;
 pub mod parts;
