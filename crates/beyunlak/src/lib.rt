@@ -1,5 +1,5 @@
-// The eight functions that a host program in C calls: planning, the latest plan and commitment on numbers and byte slices, the table of distances, that table
-// after some of its stops, the reason why a ticket is impossible, the mended ticket, and one device's part.
+// The nine functions that a host program in C calls: planning, the latest plan and commitment on numbers and byte slices, what a device sees of a record, the table
+// of distances, that table after some of its stops, the reason why a ticket is impossible, the mended ticket, and one device's part.
 // The first three hold the scratch that crate `plan` works in, so that number 10 says that the output is too short. Nobody sees it, so it is not cleared.
 ghost use mathlib.Core.Path.{_≡_};
 ghost use mathlib.Core.List.{map};
@@ -11,6 +11,7 @@ ghost use Rattle.stops.specs.After.{tableAfter};
 ghost use Rattle.reasons.specs.Reasoning.{reasoning};
 ghost use Rattle.mending.specs.Mending.{mending};
 ghost use Rattle.parts.specs.Parting.{parting};
+ghost use Rattle.viewing.specs.View.{viewing};
 use ticket::RECORD_BYTES;
 
 // The scratch of a call; as a call's result it is no list of 1,824 literals in the proofs.
@@ -48,24 +49,36 @@ pub extern "C" fn beyunlak_plan_latest(ticket: &[u8], out: &mut [u8]) -> u32
     latest.number
 }
 
-// The record after `event` commits to `open` to `close`, at the start of `out`. The answer is 0, or the number of the first cause to refuse.
+// The record after the device `caller` commits its event to `open` to `close`, at the start of `out`. The answer is 0, or the number of the first cause to refuse.
 #[no_mangle]
 pub extern "C" fn beyunlak_commit(
     record: &[u8],
+    caller: u32,
     event: u32,
     open: u32,
     close: u32,
     out: &mut [u8],
 ) -> u32
-    ensures { λ r. ⌜ r ≡ committing (now («record» .entry)) event «open» close (now (out .entry)) (replicate 2400 0) .number ⌝ }
-    ensures { λ _. ⌜ now (out .exit) ≡ committing (now («record» .entry)) event «open» close (now (out .entry)) (replicate 2400 0) .out ⌝ }
+    ensures { λ r. ⌜ r ≡ committing (now («record» .entry)) caller event «open» close (now (out .entry)) (replicate 2400 0) .number ⌝ }
+    ensures { λ _. ⌜ now (out .exit) ≡ committing (now («record» .entry)) caller event «open» close (now (out .entry)) (replicate 2400 0) .out ⌝ }
 {
     if out.len() < RECORD_BYTES {
         return 10;
     }
     let mut lent = scratch();
-    let committed = plan::commit_bytes(record, event, open, close, out, &mut lent);
+    let committed = plan::commit_bytes(record, caller, event, open, close, out, &mut lent);
     committed.number
+}
+
+// What the device `caller` sees of a record: its events with their flags and windows, after their count, at the start of `out`. The answer is 0, or the number of the
+// first cause to refuse.
+#[no_mangle]
+pub extern "C" fn beyunlak_view(record: &[u8], caller: u32, out: &mut [u8]) -> u32
+    ensures { λ r. ⌜ r ≡ viewing (now («record» .entry)) caller (now (out .entry)) .number ⌝ }
+    ensures { λ _. ⌜ now (out .exit) ≡ viewing (now («record» .entry)) caller (now (out .entry)) .out ⌝ }
+{
+    let viewed = view::view(record, caller, out);
+    viewed.number
 }
 
 // The table of distances of a session, row by row, at the start of `out`. The answer is 0, or the number of the first cause to refuse.

@@ -12,9 +12,11 @@ fn plan_once(ticket: &[u8], out: &mut [u8], scratch: &mut [u32]) -> Answer {
 }
 
 fn commit_once(record: &[u8], input: &[u8], out: &mut [u8], scratch: &mut [u32]) -> Answer {
-    let event = script::four(input, 0);
-    let opens = script::four(input, 4);
-    plan::commit(record, event, opens, script::four(input, 8), out, scratch)
+    let caller = script::four(input, 0);
+    let event = script::four(input, 4);
+    let opens = script::four(input, 8);
+    let closes = script::four(input, 12);
+    plan::commit(record, caller, event, opens, closes, out, scratch)
 }
 
 // Commit to the record, or plan the input.

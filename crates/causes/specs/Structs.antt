@@ -5,7 +5,7 @@ use mathlib.Core.Bool.{Bool, true, false}
 use mathlib.Core.List.{List, _∷_, map, _++_}
 use Prim.Native.Nat.{ℕ, zero, suc, _-_, _≤_, _<_}
 use native.Mathlib.Omega.{arith}
-use mathlib.Core.Logic.{_⊎_, inl, inr}
+use mathlib.Core.Logic.{_⊎_, inl, inr, _≢_}
 use lib.ListN.{length, getD, set, replicate, length-append, length-replicate, length-map, length-set}
 use lib.Seq.{getD-append-add, getD-set-other}
 use Rattle.temporal.specs.Lists.{below-or-not, by-points, getD-past}
@@ -18,11 +18,16 @@ use Rattle.network.specs.Lists.{zeros-at}
 use Rattle.ticket.specs.Agree.{field-at, counts-all, state-stored}
 use Rattle.ticket.specs.Writing.{firsts, content, stateOf, Storable}
 use Rattle.ticket.specs.WritingLaws.{length-firsts, getD-firsts}
-use Rattle.ticket.specs.Stored.{pad, storedState}
+use Rattle.ticket.specs.Parser.{Cause, got, refused, number, wholly}
+use Rattle.ticket.specs.Format.{readState}
+use Rattle.ticket.specs.Laws.{was-refused, was-got}
+use Rattle.ticket.specs.RoundTrip.{Bytes, written-read-state}
+use Rattle.ticket.specs.Stored.{pad, storedState, planned, wholeRecord}
 use Rattle.ticket.specs.Writer.{flagByte}
 use Rattle.ticket.specs.Content.{in-events, in-rules}
 use Rattle.potentials.specs.Arrays.{windowList, window-at, Lie, Within}
 use Rattle.ticket.specs.declared.Record.{Record}
+use Rattle.ticket.specs.declared.ReadRecord.{ReadRecord}
 
 -- ---- an array of 40 numbers, 0 past the first n
 
@@ -65,7 +70,7 @@ module _ (s : State) (ok : Readable s) where
   few : length (s .windows) ≤ 40
   few = omega (arith, ok .windows-count, ok .valid .events-limit)
 
-  pub state-of : stateOf (storedState s) ≡ s
+  state-of : stateOf (storedState s) ≡ s
   state-of = state-stored s (ok .windows-count) (ok .flags-count) (ok .counts-count)
 
 -- ---- a record that the code hands on
@@ -78,7 +83,7 @@ pub record Canonical (r : Record) : Type 0 where
   pub counts-long : length (r .counts) ≡ 5
   pub readable : Readable (stateOf r)
 
-pub canonical-read : (s : State) → Readable s → Canonical (storedState s)
+canonical-read : (s : State) → Readable s → Canonical (storedState s)
 canonical-read s ok = record {
   flags-past = subst (λ n. Past n (storedState s .flags)) (ok .flags-count) (pad-past flagByte (s .flags) (omega (arith, ok .flags-count, ok .valid .events-limit)));
   opens-past = subst (λ n. Past n (storedState s .opens)) (ok .windows-count) (pad-past (λ (w : Window). w .opens) (s .windows) (few s ok));
@@ -153,3 +158,29 @@ module _ (n : ℕ) (f : ℕ → ℕ) where
 
   pub owner-past : (p : ℕ) → n < p → getD (5 ∷ firsts n f) p 5 ≡ 5
   owner-past p l = getD-past (5 ∷ firsts n f) 5 p (omega (arith, length-firsts n f))
+
+-- ---- a record that was read
+
+-- what reading the bytes to their end answers
+module _ (bytes : List ℕ) {x : ReadRecord} (e : x ≡ wholeRecord bytes) where
+  -- the number of its cause,
+  pub read-refused : x .number ≢ 0 → (c : Cause) × (wholly readState bytes ≡ refused c) × (x .number ≡ number c)
+  read-refused n = was-refused (λ (y : ReadRecord). y .number) (planned 0) (λ s t. refl) (λ c. refl) (wholly readState bytes) x e n
+
+  -- or a struct that says the state, and is one that the code hands on
+  module _ (z : x .number ≡ 0) where
+    pub read-got : (s : State) × (rest : List ℕ) × (wholly readState bytes ≡ got s rest)
+    read-got = was-got (λ (y : ReadRecord). y .number) (planned 0) (λ s t. refl) (λ c. refl) (wholly readState bytes) x e z
+
+    struct-state : x .plan ≡ storedState (read-got .0)
+    struct-state = ap (λ (y : ReadRecord). y .plan) (e ∙ ap (planned 0) (read-got .2))
+
+    module _ (b : Bytes bytes) where
+      readable : Readable (read-got .0)
+      readable = written-read-state bytes (read-got .0) (read-got .1) b (read-got .2) .1
+
+      pub read-canonical : Canonical (x .plan)
+      read-canonical = subst Canonical (sym struct-state) (canonical-read (read-got .0) readable)
+
+      pub read-state : stateOf (x .plan) ≡ read-got .0
+      read-state = ap stateOf struct-state ∙ state-of (read-got .0) readable

@@ -1,4 +1,4 @@
-// The tests that refuse a call before its windows are sought: too little room, and the causes against a commitment; the owner of an event; and the clearing of the scratch that ends each
+// The tests that refuse a call before its windows are sought: too little room, and the causes against a commitment; and the clearing of the scratch that ends each
 // call.
 // Rests on `temporal` for the causes, on `runs` for room and clearing, on `ticket` and `potentials` for the record's struct and arrays, and on `fitness` for the test of its windows.
 
@@ -57,18 +57,15 @@ fn outside(opens: u32, closes: u32, first: u32, last: u32) -> bool
     last < closes
 }
 
-// The first cause to refuse a commitment, 0 if there is none: of n events, whether the window leaves the event's, and the count of the event's owner.
-fn first_cause(fit: bool, n: u32, event: u32, leaves: bool, count: u32) -> u32
-    ensures { λ r. ⌜ r ≡ firstCause fit n event leaves count ⌝ }
+// The first cause to refuse a device's commitment, 0 if there is none: whether the event is its own, whether the window leaves the event's, and the device's count.
+fn first_cause(fit: bool, own: bool, leaves: bool, count: u32) -> u32
+    ensures { λ r. ⌜ r ≡ firstCause fit own leaves count ⌝ }
 {
     if !fit {
         return 15;
     }
-    if event == 0 {
-        return 11;
-    }
-    if n < event {
-        return 11;
+    if !own {
+        return 20;
     }
     if leaves {
         return 13;
@@ -94,7 +91,7 @@ fn number_at(xs: &[u32; Ticket::EVENTS], event: u32) -> u32
 }
 
 // The device that owns an event, 5 where there is no such event.
-pub fn owner_of(n: u32, owners: [u8; Ticket::EVENTS], event: u32) -> usize
+fn owner_of(n: u32, owners: [u8; Ticket::EVENTS], event: u32) -> usize
     requires { ⌜ n ≤ 40 ⌝ }
     ensures { λ r. ⌜ r ≡ getD (5 ∷ firsts n (λ i. at owners i)) event 5 ⌝ }
 {
@@ -108,17 +105,10 @@ pub fn owner_of(n: u32, owners: [u8; Ticket::EVENTS], event: u32) -> usize
     ticket::wide(owner)
 }
 
-// The count of a device, 0 for no device.
-fn count_of(counts: [u32; ticket::DEVICES], o: usize) -> u32
-    ensures { λ r. ⌜ r ≡ at counts o ⌝ }
-{
-    if o < ticket::DEVICES { counts[o] } else { 0 }
-}
-
-// The first cause to refuse a commitment to the record.
-pub fn cause(r: ticket::Record, event: u32, opens: u32, closes: u32) -> u32
-    requires { ⌜ Canonical r ⌝ }
-    ensures { λ k. ⌜ k ≡ cause (stateOf r) (asking event opens closes) ⌝ }
+// The first cause to refuse a device's commitment to the record.
+pub fn cause(r: ticket::Record, caller: u32, event: u32, opens: u32, closes: u32) -> u32
+    requires { ⌜ Canonical r × (caller ≤ 4) ⌝ }
+    ensures { λ k. ⌜ k ≡ cause (stateOf r) (asking caller event opens closes) ⌝ }
 {
     let t = r.ticket;
     let firsts = r.opens;
@@ -132,8 +122,8 @@ pub fn cause(r: ticket::Record, event: u32, opens: u32, closes: u32) -> u32
         number_at(&lasts, event),
     );
     let owners = t.owners;
-    let o = owner_of(n, owners, event);
+    let own = owner_of(n, owners, event) == caller as usize;
     let counts = r.counts;
-    let count = count_of(counts, o);
-    first_cause(fit, n, event, leaves, count)
+    let count = counts[caller as usize];
+    first_cause(fit, own, leaves, count)
 }

@@ -60,6 +60,7 @@ pub extern "C" fn harness_plan_latest(
 #[no_mangle]
 pub extern "C" fn harness_commit(
     record: &[u8],
+    caller: u32,
     event: u32,
     open: u32,
     close: u32,
@@ -68,13 +69,13 @@ pub extern "C" fn harness_commit(
     size: &mut u32,
     sum: &mut u32,
 ) -> u32
-    ensures { λ r. ⌜ r ≡ committing (now («record» .entry)) event «open» close (now (out .entry)) (now (scratch .entry)) .number ⌝ }
-    ensures { λ _. ⌜ now (out .exit) ≡ committing (now («record» .entry)) event «open» close (now (out .entry)) (now (scratch .entry)) .out ⌝ }
-    ensures { λ _. ⌜ now (scratch .exit) ≡ committing (now («record» .entry)) event «open» close (now (out .entry)) (now (scratch .entry)) .scratch ⌝ }
-    ensures { λ _. ⌜ now (size .exit) ≡ Rewriting·narrow (committing (now («record» .entry)) event «open» close (now (out .entry)) (now (scratch .entry)) .length) ⌝ }
-    ensures { λ _. ⌜ now (sum .exit) ≡ committing (now («record» .entry)) event «open» close (now (out .entry)) (now (scratch .entry)) .total ⌝ }
+    ensures { λ r. ⌜ r ≡ committing (now («record» .entry)) caller event «open» close (now (out .entry)) (now (scratch .entry)) .number ⌝ }
+    ensures { λ _. ⌜ now (out .exit) ≡ committing (now («record» .entry)) caller event «open» close (now (out .entry)) (now (scratch .entry)) .out ⌝ }
+    ensures { λ _. ⌜ now (scratch .exit) ≡ committing (now («record» .entry)) caller event «open» close (now (out .entry)) (now (scratch .entry)) .scratch ⌝ }
+    ensures { λ _. ⌜ now (size .exit) ≡ Rewriting·narrow (committing (now («record» .entry)) caller event «open» close (now (out .entry)) (now (scratch .entry)) .length) ⌝ }
+    ensures { λ _. ⌜ now (sum .exit) ≡ committing (now («record» .entry)) caller event «open» close (now (out .entry)) (now (scratch .entry)) .total ⌝ }
 {
-    let committed = plan::commit(record, event, open, close, out, scratch);
+    let committed = plan::commit(record, caller, event, open, close, out, scratch);
     let n = committed.length;
     *size = narrow(n);
     *sum = committed.total;

@@ -6,24 +6,23 @@ use Prim.Native.Nat.{ℕ, _≤_, _<_}
 use lib.ListN.{length}
 use Rattle.temporal.specs.Ticket as temporal
 use Rattle.temporal.specs.Ticket.{total}
-use Rattle.temporal.specs.Plan.{State, Answer as Decision, accepted, refused, plan, planLatest, commit, asking}
-use Rattle.temporal.specs.Run.{Readable}
-use Rattle.ticket.specs.Parser.{Cause, Out, got, number, wholly}
+use Rattle.temporal.specs.Plan.{State, Answer as Decision, accepted, refused, plan, planLatest}
+use Rattle.ticket.specs.Parser.{Cause, Out, number, wholly}
 use Rattle.ticket.specs.Parser as parser
-use Rattle.ticket.specs.Format.{readTicket, readState}
+use Rattle.ticket.specs.Format.{readTicket}
 use Rattle.ticket.specs.Writer.{writeState}
 use Rattle.ticket.specs.Writing.{content, stateOf, over}
-use Rattle.ticket.specs.Stored.{answer, storedState, planned, wholeTicket, wholeRecord}
-use Rattle.ticket.specs.RoundTrip.{Bytes, written-read-state}
-use Rattle.ticket.specs.Laws.{was-refused, was-got}
+use Rattle.ticket.specs.Stored.{wholeTicket, wholeRecord}
+use Rattle.ticket.specs.RoundTrip.{Bytes}
 use Rattle.ticket.specs.declared.ReadTicket.{ReadTicket}
 use Rattle.ticket.specs.declared.ReadRecord.{ReadRecord}
 use Rattle.causes.specs.Zeroed.{past, zeroed-rest}
-use Rattle.runs.specs.Calls.{Outcome, zeroed, withoutRoom, answered, afterReading, planning, planningLatest, committing}
+use Rattle.runs.specs.Calls.{Outcome, cleared, withoutRoom, answered, afterReading, planning, planningLatest, commitFor, commitRead, committing}
 use Rattle.runs.specs.Calls.{enough-room, no-room-out, planning-short, planning-read, planningLatest-short, planningLatest-read, committing-short, committing-read}
-use Rattle.runs.specs.Scratch.{read-alike, read-clears}
-use Rattle.ticket.specs.Content.{read-got, read-content}
-use Rattle.causes.specs.Structs.{state-of, Canonical, canonical-read}
+use Rattle.runs.specs.Calls.{commitRead-unknown, commitRead-known}
+use Rattle.runs.specs.Scratch.{Alike, read-alike, commitRead-alike}
+use Rattle.ticket.specs.Content.{read-refused, read-got, read-content}
+use Rattle.causes.specs.Structs as records
 use Rattle.plan.specs.Returned.{returned}
 use Rattle.plan.specs.declared.Answer.{Answer}
 
@@ -56,22 +55,18 @@ module _ {d : Decision} (out : List ℕ) {scratch : List ℕ} where
 
 -- ---- readings
 
--- a refused reading: p reads, f answers with the number num
-module _ {A X : Type 0} (num : X → ℕ) (f : Out A → X) (yes : (a : A) (t : List ℕ) → num (f (got a t)) ≡ 0) (no : (k : Cause) → num (f (parser.refused k)) ≡ number k) where
-  meets-misread : (decide : A → Decision) {out scratch : List ℕ} (o : Out A) (x : X) {a : Answer} → x ≡ f o → (num x ≡ 0 → ⊥)
-      → a ≡ record { number = num x; length = 0; total = 0 } → Meets (afterReading out scratch decide o) scratch a out scratch
-  meets-misread decide {out} {scratch} o x e n q =
-      let k = was-refused num f yes no o x e n in
-      record {
-        answer-is = q ∙ ap (λ m. record { number = m; length = 0; total = 0 }) (k .2) ∙ ap (λ y. returned (afterReading out scratch decide y)) (sym (k .1));
-        output-is = ap (λ y. afterReading out scratch decide y .out) (sym (k .1));
-        rest-is = refl;
-      }
+meets-misread : {A : Type 0} (decide : A → Decision) {out scratch : List ℕ} {o : Out A} {n : ℕ} {a : Answer} → (k : Cause) × (o ≡ parser.refused k) × (n ≡ number k)
+    → a ≡ record { number = n; length = 0; total = 0 } → Meets (afterReading out scratch decide o) scratch a out scratch
+meets-misread decide {out} {scratch} k q = record {
+  answer-is = q ∙ ap (λ m. record { number = m; length = 0; total = 0 }) (k .2) ∙ ap (λ y. returned (afterReading out scratch decide y)) (sym (k .1));
+  output-is = ap (λ y. afterReading out scratch decide y .out) (sym (k .1));
+  rest-is = refl;
+}
 
 module _ (ticket : List ℕ) {x : ReadTicket} (e : x ≡ wholeTicket ticket) where
   pub ticket-misread : (decide : temporal.Ticket → Decision) {out scratch : List ℕ} {a : Answer} → (x .number ≡ 0 → ⊥) → a ≡ record { number = x .number; length = 0; total = 0 }
       → Meets (afterReading out scratch decide (wholly readTicket ticket)) scratch a out scratch
-  ticket-misread decide n q = meets-misread (λ (y : ReadTicket). y .number) (answer 0) (λ k t. refl) (λ k. refl) decide (wholly readTicket ticket) x e n q
+  ticket-misread decide n q = meets-misread decide (read-refused ticket e n) q
 
   module _ (z : x .number ≡ 0) where
     pub ticket-meets : (decide : temporal.Ticket → Decision) (out : List ℕ) {scratch : List ℕ} {a : Answer} {out′ scratch′ : List ℕ}
@@ -81,29 +76,29 @@ module _ (ticket : List ℕ) {x : ReadTicket} (e : x ≡ wholeTicket ticket) whe
         subst (λ o. Meets o scratch a out′ scratch′)
         (ap (λ k. answered out scratch (decide k)) (read-content ticket e z) ∙ ap (afterReading out scratch decide) (sym (read-got ticket e z .2))) m
 
-module _ (bytes : List ℕ) {x : ReadRecord} (e : x ≡ wholeRecord bytes) (decide : State → Decision) where
-  pub record-misread : {out scratch : List ℕ} {a : Answer} → (x .number ≡ 0 → ⊥) → a ≡ record { number = x .number; length = 0; total = 0 }
-      → Meets (afterReading out scratch decide (wholly readState bytes)) scratch a out scratch
-  record-misread n q = meets-misread (λ (y : ReadRecord). y .number) (planned 0) (λ s t. refl) (λ k. refl) decide (wholly readState bytes) x e n q
+-- ---- the readings of a commitment
 
-  module _ (z : x .number ≡ 0) (b : Bytes bytes) where
-    read-state : (s : State) × (rest : List ℕ) × (wholly readState bytes ≡ got s rest)
-    read-state = was-got (λ (y : ReadRecord). y .number) (planned 0) (λ s t. refl) (λ k. refl) (wholly readState bytes) x e z
+-- "19, caller above 4, after 10"
+module _ (bytes : List ℕ) (caller event opens closes : ℕ) (out : List ℕ) {scratch : List ℕ} where
+  pub caller-unknown : {a : Answer} → 4 < caller → a ≡ record { number = 19; length = 0; total = 0 }
+      → Meets (commitRead bytes caller event opens closes out scratch) scratch a out scratch
+  caller-unknown l q = rw (commitRead-unknown bytes caller event opens closes out scratch l) (record { answer-is = q; output-is = refl; rest-is = refl })
 
-    struct-state : x .plan ≡ storedState (read-state .0)
-    struct-state = ap (λ (y : ReadRecord). y .plan) (e ∙ ap (planned 0) (read-state .2))
+  module _ (known : caller ≤ 4) {x : ReadRecord} (e : x ≡ wholeRecord bytes) where
+    pub record-misread : {a : Answer} → (x .number ≡ 0 → ⊥) → a ≡ record { number = x .number; length = 0; total = 0 }
+        → Meets (commitRead bytes caller event opens closes out scratch) scratch a out scratch
+    record-misread n q =
+        rw (commitRead-known bytes caller event opens closes out scratch known)
+        (meets-misread (commitFor caller event opens closes) (records.read-refused bytes e n) q)
 
-    readable : Readable (read-state .0)
-    readable = written-read-state bytes (read-state .0) (read-state .1) b (read-state .2) .1
-
-    pub record-read : Canonical (x .plan)
-    record-read = subst Canonical (sym struct-state) (canonical-read (read-state .0) readable)
-
-    pub record-meets : (out : List ℕ) {scratch : List ℕ} {a : Answer} {out′ scratch′ : List ℕ} → Meets (answered out scratch (decide (stateOf (x .plan)))) scratch a out′ scratch′
-        → Meets (afterReading out scratch decide (wholly readState bytes)) scratch a out′ scratch′
-    record-meets out {scratch} {a} {out′} {scratch′} m =
+    pub record-meets : x .number ≡ 0 → Bytes bytes → {a : Answer} {out′ scratch′ : List ℕ}
+        → Meets (answered out scratch (commitFor caller event opens closes (stateOf (x .plan)))) scratch a out′ scratch′
+        → Meets (commitRead bytes caller event opens closes out scratch) scratch a out′ scratch′
+    record-meets z b {a} {out′} {scratch′} m =
         subst (λ o. Meets o scratch a out′ scratch′)
-        (ap (λ s. answered out scratch (decide s)) (ap stateOf struct-state ∙ state-of (read-state .0) readable) ∙ ap (afterReading out scratch decide) (sym (read-state .2))) m
+        (ap (λ s. answered out scratch (commitFor caller event opens closes s)) (records.read-state bytes e z b)
+        ∙ ap (afterReading out scratch (commitFor caller event opens closes)) (sym (records.read-got bytes e z .2))
+        ∙ sym (commitRead-known bytes caller event opens closes out scratch known)) m
 
 -- ---- the doors
 
@@ -114,14 +109,13 @@ Whole o a out scratch = (a ≡ returned o) × ((out ≡ o .out) × (scratch ≡ 
 pub whole-short : (out scratch : List ℕ) {whole : Outcome} {a : Answer} → whole ≡ withoutRoom out scratch → a ≡ record { number = 10; length = 0; total = 0 } → Whole whole a out scratch
 whole-short out scratch e q = (q ∙ ap returned (sym e), (ap (λ (o : Outcome). o .out) (sym e), ap (λ (o : Outcome). o .scratch) (sym e)))
 
-pub whole-read : {A : Type 0} (out scratch : List ℕ) (decide : A → Decision) (o : Out A) {whole : Outcome} {a : Answer} {out′ scratch′ scratch″ : List ℕ}
-    → whole ≡ afterReading out scratch decide o → Meets (afterReading out scratch decide o) scratch a out′ scratch′
-    → scratch″ ≡ zeroed 2400 scratch′ → Whole whole a out′ scratch″
-whole-read out scratch decide o {scratch′ = scratch′} e m c = (
+pub whole-read : (scratch : List ℕ) {whole read : Outcome} {a : Answer} {out′ scratch′ scratch″ : List ℕ}
+    → whole ≡ read → read .scratch ≡ cleared scratch → Meets read scratch a out′ scratch′ → scratch″ ≡ cleared scratch′ → Whole whole a out′ scratch″
+whole-read scratch {scratch′ = scratch′} e clears m c = (
   m .answer-is ∙ ap returned (sym e),
   (
     m .output-is ∙ ap (λ (x : Outcome). x .out) (sym e),
-    c ∙ zeroed-rest 2400 scratch′ scratch (m .rest-is) ∙ sym (read-clears out scratch decide o) ∙ ap (λ (x : Outcome). x .scratch) (sym e),
+    c ∙ zeroed-rest 2400 scratch′ scratch (m .rest-is) ∙ sym clears ∙ ap (λ (x : Outcome). x .scratch) (sym e),
   ),
 )
 
@@ -131,11 +125,11 @@ whole-read out scratch decide o {scratch′ = scratch′} e m c = (
 abbrev pub Told : Outcome → ℕ → List ℕ → Type 0
 Told o number out = (number ≡ o .number) × (out ≡ o .out)
 
-told-read : {A : Type 0} (out s z : List ℕ) (decide : A → Decision) (o : Out A) {whole : Outcome} {a : Answer} {out′ s′ : List ℕ}
-    → whole ≡ afterReading out z decide o → Meets (afterReading out s decide o) s a out′ s′ → Told whole (a .number) out′
-told-read out s z decide o e m = (
-  ap (λ (x : Answer). x .number) (m .answer-is) ∙ read-alike out s z decide o .number ∙ ap (λ (x : Outcome). x .number) (sym e),
-  m .output-is ∙ read-alike out s z decide o .out ∙ ap (λ (x : Outcome). x .out) (sym e),
+told-read : {s : List ℕ} {whole read read′ : Outcome} {a : Answer} {out′ s′ : List ℕ}
+    → whole ≡ read′ → Alike read read′ → Meets read s a out′ s′ → Told whole (a .number) out′
+told-read e h m = (
+  ap (λ (x : Answer). x .number) (m .answer-is) ∙ h .number ∙ ap (λ (x : Outcome). x .number) (sym e),
+  m .output-is ∙ h .out ∙ ap (λ (x : Outcome). x .out) (sym e),
 )
 
 told-short : (out z : List ℕ) {whole : Outcome} → whole ≡ withoutRoom out z → Told whole 10 out
@@ -148,20 +142,18 @@ module _ (out z : List ℕ) where
   pub latest-short : (ticket : List ℕ) → length out < 1958 → Told (planningLatest ticket out z) 10 out
   latest-short ticket l = told-short out z (planningLatest-short ticket out z (no-room-out out z l))
 
-  pub committed-short : (bytes : List ℕ) (event opens closes : ℕ) → length out < 1958 → Told (committing bytes event opens closes out z) 10 out
-  committed-short bytes event opens closes l = told-short out z (committing-short bytes event opens closes out z (no-room-out out z l))
+  pub committed-short : (bytes : List ℕ) (caller event opens closes : ℕ) → length out < 1958 → Told (committing bytes caller event opens closes out z) 10 out
+  committed-short bytes caller event opens closes l = told-short out z (committing-short bytes caller event opens closes out z (no-room-out out z l))
 
   module _ (l : 1958 ≤ length out) (m : 2400 ≤ length z) {s : List ℕ} {a : Answer} {out′ s′ : List ℕ} where
     pub planned-told : (ticket : List ℕ) → Meets (afterReading out s plan (wholly readTicket ticket)) s a out′ s′ → Told (planning ticket out z) (a .number) out′
-    planned-told ticket h = told-read out s z plan (wholly readTicket ticket) (planning-read ticket out z (enough-room out z l m)) h
+    planned-told ticket h = told-read (planning-read ticket out z (enough-room out z l m)) (read-alike out s z plan (wholly readTicket ticket)) h
 
     pub latest-told : (ticket : List ℕ) → Meets (afterReading out s planLatest (wholly readTicket ticket)) s a out′ s′
         → Told (planningLatest ticket out z) (a .number) out′
-    latest-told ticket h = told-read out s z planLatest (wholly readTicket ticket) (planningLatest-read ticket out z (enough-room out z l m)) h
+    latest-told ticket h = told-read (planningLatest-read ticket out z (enough-room out z l m)) (read-alike out s z planLatest (wholly readTicket ticket)) h
 
-    pub committed-told : (bytes : List ℕ) (event opens closes : ℕ)
-        → Meets (afterReading out s (λ (x : State). commit x (asking event opens closes)) (wholly readState bytes)) s a out′ s′
-        → Told (committing bytes event opens closes out z) (a .number) out′
-    committed-told bytes event opens closes h =
-        told-read out s z (λ (x : State). commit x (asking event opens closes)) (wholly readState bytes)
-        (committing-read bytes event opens closes out z (enough-room out z l m)) h
+    pub committed-told : (bytes : List ℕ) (caller event opens closes : ℕ) → Meets (commitRead bytes caller event opens closes out s) s a out′ s′
+        → Told (committing bytes caller event opens closes out z) (a .number) out′
+    committed-told bytes caller event opens closes h =
+        told-read (committing-read bytes caller event opens closes out z (enough-room out z l m)) (commitRead-alike bytes caller event opens closes out s z) h

@@ -56,70 +56,68 @@ state-in t flags opens closes counts l = rw (counts-all counts l) refl
 
 -- ---- a commitment that is accepted
 
-module _ (r : Record) (ok : Canonical r) (event opens closes : ℕ) where
-  pub commit-asked : {net : List ℕ} → length net ≡ 1824 → cause (stateOf r) (asking event opens closes) ≡ 0
+module _ (r : Record) (ok : Canonical r) (caller event opens closes : ℕ) (z : cause (stateOf r) (asking caller event opens closes) ≡ 0) where
+  passed : Acceptable (stateOf r) (asking caller event opens closes)
+  passed = acceptable (stateOf r) (asking caller event opens closes) (rw z tt)
+
+  pub commit-asked : {net : List ℕ} → length net ≡ 1824
       → Workspace (r .ticket) net (r .opens) (r .closes) × Asked (r .ticket) (r .flags) (r .opens) (r .closes) event opens closes
-  commit-asked {net} l z = (
+  commit-asked {net} l = (
     edges-room (r .ticket) net (r .opens) (r .closes) (ok .readable .valid) l (ok .opens-past .long) (ok .closes-past .long),
     record {
       valid = ok .readable .valid;
-      passes = unfold windowList flagList in cause-counts (stateOf r) (asking event opens closes) (replicate 5 0)
-          (λ q. omega (arith, q, states-hold.none-counted 5 (ownerOf (content (r .ticket)) event))) z;
+      passes = unfold windowList flagList in rw (passed .own) (cause-counts (stateOf r) (asking caller event opens closes) (replicate 5 0)
+          (λ q. omega (arith, q, states-hold.none-counted 5 (ownerOf (content (r .ticket)) event))) z);
       flags-long = ok .flags-past .long;
       opens-long = ok .opens-past .long;
       closes-long = ok .closes-past .long;
     },
   )
 
-  -- the record with these arrays and the count of the device o one higher
-  abbrev pub raised : (flags opens closes : List ℕ) (o : ℕ) → Record
-  raised flags′ opens′ closes′ o =
-      record { ticket = r .ticket; flags = flags′; opens = opens′; closes = closes′; counts = set (r .counts) o (at (r .counts) o + 1) }
+  -- the record with these arrays and the caller's count one higher
+  abbrev pub raised : (flags opens closes : List ℕ) → Record
+  raised flags′ opens′ closes′ =
+      record { ticket = r .ticket; flags = flags′; opens = opens′; closes = closes′; counts = set (r .counts) caller (at (r .counts) caller + 1) }
 
   -- what a commitment leaves in the arrays is kept
-  pub canonical-committed : {flags′ opens′ closes′ : List ℕ} {o : ℕ} → cause (stateOf r) (asking event opens closes) ≡ 0
+  pub canonical-committed : {flags′ opens′ closes′ : List ℕ}
       → Committed (r .ticket) (r .flags) (r .opens) (r .closes) flags′ opens′ closes′ event opens closes
-      → o ≡ ownerOf (content (r .ticket)) event
-      → Canonical (raised flags′ opens′ closes′ o) × (commit (stateOf r) (asking event opens closes) ≡ accepted (stateOf (raised flags′ opens′ closes′ o)))
+      → Canonical (raised flags′ opens′ closes′) × (commit (stateOf r) (asking caller event opens closes) ≡ accepted (stateOf (raised flags′ opens′ closes′)))
   unfolding windowList flagList
-  canonical-committed {flags′} {opens′} {closes′} {o} z C same = (
+  canonical-committed {flags′} {opens′} {closes′} C = (
     record {
       flags-past = subst (Past (r .ticket .events)) (sym (C .flags-are)) (set-past (event - 1) 1 inside (ok .flags-past));
       opens-past = within-past (ok .opens-past) (C .opens-past);
       closes-past = within-past (ok .closes-past) (C .closes-past);
       bits = λ i. subst (λ xs. at xs i ≤ 1) (sym (C .flags-are)) (set-bit i (ℕ-discrete i (event - 1)));
       counts-long = five;
-      readable = committed-readable (stateOf r) (ok .readable) (asking event opens closes) z (stateOf (raised flags′ opens′ closes′ o)) decided;
+      readable = committed-readable (stateOf r) (ok .readable) (asking caller event opens closes) z (stateOf (raised flags′ opens′ closes′)) decided;
     },
     decided,
   )
     where
-      passed : Acceptable (stateOf r) (asking event opens closes)
-      passed = acceptable (stateOf r) (asking event opens closes) (rw z tt)
-
       inside : event - 1 < r .ticket .events
       inside = omega (arith, passed .event, in-events (r .ticket))
 
-      five : length (set (r .counts) o (at (r .counts) o + 1)) ≡ 5
-      five = length-set (r .counts) o (at (r .counts) o + 1) ∙ ok .counts-long
+      five : length (set (r .counts) caller (at (r .counts) caller + 1)) ≡ 5
+      five = length-set (r .counts) caller (at (r .counts) caller + 1) ∙ ok .counts-long
 
-      one-more : raise (stateOf r .counts) (ownerOf (content (r .ticket)) event) ≡ set (r .counts) o (at (r .counts) o + 1)
-      one-more = rw (counts-all (r .counts) (ok .counts-long), ← same, add-one) refl
+      one-more : raise (stateOf r .counts) (ownerOf (content (r .ticket)) event) ≡ set (r .counts) caller (at (r .counts) caller + 1)
+      one-more = rw (counts-all (r .counts) (ok .counts-long), passed .own, add-one) refl
 
-      decided : commit (stateOf r) (asking event opens closes) ≡ accepted (stateOf (raised flags′ opens′ closes′ o))
+      decided : commit (stateOf r) (asking caller event opens closes) ≡ accepted (stateOf (raised flags′ opens′ closes′))
       decided =
-          C .answer (stateOf r .counts) (passed .rises) ∙ ap (λ ns. accepted (stateIn (r .ticket) flags′ opens′ closes′ ns)) one-more
-          ∙ ap accepted (state-in (r .ticket) flags′ opens′ closes′ (set (r .counts) o (at (r .counts) o + 1)) five)
+          ap (λ o. commit (stateOf r) (asking o event opens closes)) (sym (passed .own))
+          ∙ C .answer (stateOf r .counts) (passed .rises) ∙ ap (λ ns. accepted (stateIn (r .ticket) flags′ opens′ closes′ ns)) one-more
+          ∙ ap accepted (state-in (r .ticket) flags′ opens′ closes′ (set (r .counts) caller (at (r .counts) caller + 1)) five)
 
       set-bit : (i : ℕ) → Dec (i ≡ event - 1) → at (set (r .flags) (event - 1) 1) i ≤ 1
       set-bit i (yes q) = omega (arith, ap (at (set (r .flags) (event - 1) 1)) q, getD-set-same (r .flags) (event - 1) 1 0 (omega (arith, inside, canonical-few r ok, ok .flags-past .long)))
       set-bit i (no n) = omega (arith, getD-set-other (r .flags) (event - 1) i 1 0 n, ok .bits i)
 
-  -- the owner's count can rise
-  pub owner-counted : {o : ℕ} → cause (stateOf r) (asking event opens closes) ≡ 0 → o ≡ ownerOf (content (r .ticket)) event → (o < 5) × (at (r .counts) o ≤ 65535)
-  owner-counted {o} z same =
-      let known = states-hold.owner-known (content (r .ticket)) (ok .readable .valid) event (acceptable (stateOf r) (asking event opens closes) (rw z tt) .event) in
-      (omega (arith, same, known), omega (arith, same, count-of r ok o, ok .readable .counts-most o (omega (arith, same, known))))
+  -- the caller is a device, and its count can rise
+  pub caller-counted : (caller < 5) × (at (r .counts) caller ≤ 65535)
+  caller-counted = (omega (arith, passed .known), omega (arith, count-of r ok caller, ok .readable .counts-most caller (omega (arith, passed .known))))
 
 -- ---- planning
 

@@ -7,17 +7,20 @@ ghost use mathlib.Core.Path.{_≡_};
 ghost use Prim.Native.Nat.{_≤_};
 ghost use lib.ListN.{length};
 ghost use Rattle.temporal.specs.Ticket.{total};
-ghost use Rattle.temporal.specs.Plan.{State, planFor, cause, commit, accepted, asking};
+ghost use Rattle.temporal.specs.Plan.{planFor, cause, commit, accepted, asking};
 ghost use Rattle.temporal.specs.Run.{Valid};
 ghost use Rattle.ticket.specs.Parser.{wholly};
-ghost use Rattle.ticket.specs.Format.{readTicket, readState};
+ghost use Rattle.ticket.specs.Format.{readTicket};
 ghost use Rattle.ticket.specs.Writer.{writeState};
 ghost use Rattle.ticket.specs.Writing.{content, stateOf, over};
 ghost use Rattle.causes.specs.Zeroed.{past};
-ghost use Rattle.runs.specs.Calls.{answered, afterReading, planning, planningLatest, committing};
+ghost use Rattle.runs.specs.Calls.{answered, afterReading, planning, planningLatest, commitRead, committing};
 ghost use Rattle.plan.specs.Returned.{returned};
 ghost use Rattle.causes.specs.Structs.{Canonical};
 ghost use Rattle.plan.specs.Meets.{Meets};
+
+// How many devices there are, in the type of a caller.
+const DEVICES: u32 = ticket::DEVICES as u32;
 
 // The number of the refusal, 0 when accepted; the record's length and its total width, 0 when refused.
 pub struct Answer {
@@ -125,17 +128,18 @@ pub fn plan_latest(ticket: &[u8], out: &mut [u8], scratch: &mut [u32]) -> Answer
     answer
 }
 
-// The record with the event committed to the window, and the free windows as wide as they can be.
+// The record with the event committed to the window by the caller, and the free windows as wide as they can be.
 fn commit_event(
     r: ticket::Record,
+    caller: u32,
     event: u32,
     opens: u32,
     closes: u32,
     scratch: &mut [u32],
 ) -> ticket::Record
-    requires { ⌜ Canonical r × (cause (stateOf r) (asking event opens closes) ≡ 0) ⌝ }
+    requires { ⌜ Canonical r × (cause (stateOf r) (asking caller event opens closes) ≡ 0) ⌝ }
     requires { ⌜ 1824 ≤ length (now scratch) ⌝ }
-    ensures { λ q. ⌜ Canonical q × (commit (stateOf r) (asking event opens closes) ≡ accepted (stateOf q)) ⌝ }
+    ensures { λ q. ⌜ Canonical q × (commit (stateOf r) (asking caller event opens closes) ≡ accepted (stateOf q)) ⌝ }
     ensures { λ q. ⌜ past 2400 (now (scratch .exit)) ≡ past 2400 (now (scratch .entry)) ⌝ }
 {
     let t = r.ticket;
@@ -152,11 +156,8 @@ fn commit_event(
         opens,
         closes,
     );
-    let n = t.events as u32;
-    let owners = t.owners;
-    let o = causes::owner_of(n, owners, event);
     let mut counts = r.counts;
-    counts[o] += 1;
+    counts[caller as usize] += 1;
     ticket::Record {
         ticket: t,
         flags,
@@ -169,28 +170,30 @@ fn commit_event(
 // Commit to a record that was read.
 fn commit_record(
     r: ticket::Record,
+    caller: u32,
     event: u32,
     opens: u32,
     closes: u32,
     out: &mut [u8],
     scratch: &mut [u32],
 ) -> Answer
-    requires { ⌜ Canonical r × (1958 ≤ length (now out)) × (1824 ≤ length (now scratch)) ⌝ }
+    requires { ⌜ Canonical r × (caller ≤ 4) × (1958 ≤ length (now out)) × (1824 ≤ length (now scratch)) ⌝ }
     ensures { λ a.
-        ⌜ Meets (answered (now (out .entry)) (now (scratch .entry)) (commit (stateOf r) (asking event opens closes)))
+        ⌜ Meets (answered (now (out .entry)) (now (scratch .entry)) (commit (stateOf r) (asking caller event opens closes)))
         (now (scratch .entry)) a (now (out .exit)) (now (scratch .exit)) ⌝ }
 {
-    let refused = causes::cause(r, event, opens, closes);
+    let refused = causes::cause(r, caller, event, opens, closes);
     if refused != 0 {
         return refusal(refused);
     }
-    let next = commit_event(r, event, opens, closes, scratch);
+    let next = commit_event(r, caller, event, opens, closes, scratch);
     write_out(next, out)
 }
 
 // Commit to the record that the bytes hold, where there is room. Of the scratch the first 1,824 numbers are used, and not cleared.
 pub fn commit_bytes(
     record: &[u8],
+    caller: u32,
     event: u32,
     opens: u32,
     closes: u32,
@@ -199,34 +202,38 @@ pub fn commit_bytes(
 ) -> Answer
     requires { ⌜ (1958 ≤ length (now out)) × (1824 ≤ length (now scratch)) ⌝ }
     ensures { λ a.
-        ⌜ Meets (afterReading (now (out .entry)) (now (scratch .entry)) (λ (s : State). commit s (asking event opens closes))
-        (wholly readState (now («record» .entry)))) (now (scratch .entry)) a (now (out .exit)) (now (scratch .exit)) ⌝ }
+        ⌜ Meets (commitRead (now («record» .entry)) caller event opens closes (now (out .entry)) (now (scratch .entry)))
+        (now (scratch .entry)) a (now (out .exit)) (now (scratch .exit)) ⌝ }
 {
+    if DEVICES <= caller {
+        return refusal(19);
+    }
     let read = reading_records::read_record(record);
     if read.number != 0 {
         return refusal(read.number);
     }
     let r = read.plan;
-    commit_record(r, event, opens, closes, out, scratch)
+    commit_record(r, caller, event, opens, closes, out, scratch)
 }
 
 // Commit the event of a record to a window: the new record goes into the output.
 pub fn commit(
     record: &[u8],
+    caller: u32,
     event: u32,
     opens: u32,
     closes: u32,
     out: &mut [u8],
     scratch: &mut [u32],
 ) -> Answer
-    ensures { λ a. ⌜ a ≡ returned (committing (now («record» .entry)) event opens closes (now (out .entry)) (now (scratch .entry))) ⌝ }
-    ensures { λ a. ⌜ now (out .exit) ≡ committing (now («record» .entry)) event opens closes (now (out .entry)) (now (scratch .entry)) .out ⌝ }
-    ensures { λ a. ⌜ now (scratch .exit) ≡ committing (now («record» .entry)) event opens closes (now (out .entry)) (now (scratch .entry)) .scratch ⌝ }
+    ensures { λ a. ⌜ a ≡ returned (committing (now («record» .entry)) caller event opens closes (now (out .entry)) (now (scratch .entry))) ⌝ }
+    ensures { λ a. ⌜ now (out .exit) ≡ committing (now («record» .entry)) caller event opens closes (now (out .entry)) (now (scratch .entry)) .out ⌝ }
+    ensures { λ a. ⌜ now (scratch .exit) ≡ committing (now («record» .entry)) caller event opens closes (now (out .entry)) (now (scratch .entry)) .scratch ⌝ }
 {
     if causes::short(out.len(), scratch.len()) {
         return refusal(10);
     }
-    let answer = commit_bytes(record, event, opens, closes, out, scratch);
+    let answer = commit_bytes(record, caller, event, opens, closes, out, scratch);
     causes::clear(scratch);
     answer
 }

@@ -82,7 +82,7 @@ valid1 = written-read bytes1 ticket1 [] (All-at (λ b. b < 256) 0 (omega arith) 
 
 -- P2's commitment of event 1
 abbrev narrow1 : Commitment
-narrow1 = asking 1 10 10
+narrow1 = asking 0 1 10 10
 
 -- P1's plan has the total 18, so on no grid a fit set is wider
 pub p1-finer : NoneWider ticket1 18 (λ q. FineFit q ticket1)

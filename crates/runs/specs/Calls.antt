@@ -1,11 +1,11 @@
 -- Planning and commitment on bytes, as functions of all that a call is lent: what is returned, and what output and scratch hold afterwards.
--- The bytes are `ticket`'s, the decisions `temporal`'s. This is 01's "Network, table, plan" and "Where a paper is sent back", and 02's change 1.
+-- The bytes are `ticket`'s, the decisions `temporal`'s. This is 01's "Network, table, plan" and "Where a paper is sent back", and 02's changes 1 and 11.
 use mathlib.Core.Path.{_≡_}
 use mathlib.Core.Bool.{Bool, true, false, cond, _&&_}
 use mathlib.Core.List.{List, _++_}
 use Prim.Native.Nat.{ℕ, _≤_, _<_}
-use borrow.Author.Tests.{le-leb, lt-leb}
-use lib.Dec.{leb}
+use borrow.Author.Tests.{le-leb, lt-leb, lt-ltb, le-ltb}
+use lib.Dec.{leb, ltb}
 use lib.ListN.{length, drop, replicate}
 use Rattle.temporal.specs.Ticket.{total}
 use Rattle.temporal.specs.Plan.{State, Answer, asking, plan, planLatest, commit}
@@ -62,18 +62,23 @@ abbrev pub afterReading : {A : Type 0} → List ℕ → List ℕ → (A → Answ
 afterReading out scratch decide (Out.got x rest) = answered out scratch (decide x)
 afterReading out scratch decide (Out.refused cause) = refusing (number cause) out scratch
 
--- ---- the calls: 10 is tested first, then the bytes are read, to their end, then it is decided
+-- ---- the calls: 10 is tested first, then the caller of a commitment, then the bytes are read, to their end, then it is decided
 
 -- where there is room
 abbrev pub planRead : (ticket out scratch : List ℕ) → Outcome
 planRead ticket out scratch =
     afterReading out scratch plan (wholly readTicket ticket)
 
-abbrev pub commitRead : (bytes : List ℕ) (event opens closes : ℕ) (out scratch : List ℕ) → Outcome
-commitRead bytes event opens closes out scratch =
-    afterReading out scratch
-    (λ (s : State). commit s (asking event opens closes))
-    (wholly readState bytes)
+-- what is decided of the record that a commitment is handed
+abbrev pub commitFor : (caller event opens closes : ℕ) → State → Answer
+commitFor caller event opens closes s = commit s (asking caller event opens closes)
+
+-- "19, caller above 4, after 10" (02, change 11)
+unfoldable pub commitRead : (bytes : List ℕ) (caller event opens closes : ℕ) (out scratch : List ℕ) → Outcome
+commitRead bytes caller event opens closes out scratch =
+    cond (ltb 4 caller)
+    (refusing 19 out scratch)
+    (afterReading out scratch (commitFor caller event opens closes) (wholly readState bytes))
 
 unfoldable pub planning : (ticket out scratch : List ℕ) → Outcome
 planning ticket out scratch = cond (room out scratch) (planRead ticket out scratch) (withoutRoom out scratch)
@@ -86,9 +91,9 @@ planReadLatest ticket out scratch =
 unfoldable pub planningLatest : (ticket out scratch : List ℕ) → Outcome
 planningLatest ticket out scratch = cond (room out scratch) (planReadLatest ticket out scratch) (withoutRoom out scratch)
 
-unfoldable pub committing : (bytes : List ℕ) (event opens closes : ℕ) (out scratch : List ℕ) → Outcome
-committing bytes event opens closes out scratch =
-    cond (room out scratch) (commitRead bytes event opens closes out scratch) (withoutRoom out scratch)
+unfoldable pub committing : (bytes : List ℕ) (caller event opens closes : ℕ) (out scratch : List ℕ) → Outcome
+committing bytes caller event opens closes out scratch =
+    cond (room out scratch) (commitRead bytes caller event opens closes out scratch) (withoutRoom out scratch)
 
 -- ---- the same by cases
 
@@ -121,11 +126,21 @@ module _ (ticket out scratch : List ℕ) where
   unfolding planningLatest
   planningLatest-read e = rw e
 
-module _ (bytes : List ℕ) (event opens closes : ℕ) (out scratch : List ℕ) where
-  pub committing-short : room out scratch ≡ false → committing bytes event opens closes out scratch ≡ withoutRoom out scratch
+module _ (bytes : List ℕ) (caller event opens closes : ℕ) (out scratch : List ℕ) where
+  pub committing-short : room out scratch ≡ false → committing bytes caller event opens closes out scratch ≡ withoutRoom out scratch
   unfolding committing
   committing-short e = rw e
 
-  pub committing-read : room out scratch ≡ true → committing bytes event opens closes out scratch ≡ commitRead bytes event opens closes out scratch
+  pub committing-read : room out scratch ≡ true → committing bytes caller event opens closes out scratch ≡ commitRead bytes caller event opens closes out scratch
   unfolding committing
   committing-read e = rw e
+
+  pub commitRead-unknown : 4 < caller → commitRead bytes caller event opens closes out scratch ≡ refusing 19 out scratch
+  unfolding commitRead
+  commitRead-unknown l = rw (lt-ltb 4 caller l)
+
+  pub commitRead-known : caller ≤ 4
+      → commitRead bytes caller event opens closes out scratch
+      ≡ afterReading out scratch (commitFor caller event opens closes) (wholly readState bytes)
+  unfolding commitRead
+  commitRead-known l = rw (le-ltb 4 caller l)

@@ -3,11 +3,12 @@
 use mathlib.Core.Path.{_≡_, refl, sym, ap, _∙_}
 use mathlib.Core.Bool.{true}
 use mathlib.Core.List.{List, [], _∷_}
-use mathlib.Core.Logic.{_⊎_, inl, inr}
-use Prim.Native.Nat.{ℕ}
+use mathlib.Core.Logic.{_⊎_, inl, inr, ⊎-elim}
+use Prim.Native.Nat.{ℕ, _≤_, _<_}
 use native.Mathlib.Omega.{arith}
 use lib.ListN.{length, drop, replicate}
 use lib.Seq.{drop-append-seam}
+use Rattle.temporal.specs.Lists.{below-or-not}
 use Rattle.temporal.specs.Ticket.{Ticket, events, total}
 use Rattle.temporal.specs.Plan.{State, Answer, accepted, plan, committed, commit}
 use Rattle.temporal.specs.Run.{Valid, Readable, Place}
@@ -24,7 +25,7 @@ use Rattle.runs.specs.Calls as calls
 use Rattle.runs.specs.Calls.{Outcome, room, accepting, afterReading, planning, planning-short, planning-read}
 use Rattle.runs.specs.Run.{Call, asks, outcome, Holds}
 use Rattle.runs.specs.RunHolds.{outcome-accepted}
-use Rattle.runs.specs.Refusals.{CommitRefused, lent-short, unreadable, commit-refusal, commit-accepted, by-room, has-room, no-room}
+use Rattle.runs.specs.Refusals.{CommitRefused, lent-short, unknown-caller, unreadable, commit-refusal, commit-accepted, by-room, has-room, no-room}
 
 -- reading the output from its start gives the state s, and leaves what lies past the length returned; the length is the size of s's record, and the
 -- total that of its windows. So both are functions of the output's bytes.
@@ -74,7 +75,10 @@ module _ (ticket out scratch : List ℕ) where
 module _ (current : List ℕ) (bytes : Bytes current) (c : Call) where
   pub commit-tells : outcome current c .number ≡ 0 → (s : State) × Tells (outcome current c) s
   commit-tells z = by-room (c .out) (c .scratch)
-      (λ e. by-reading e (answered readState current))
+      (λ e. ⊎-elim
+      (λ (l : 4 < c .caller). absurd (not-refused 19 (unknown-caller refl (has-room (c .out) (c .scratch) e) l)))
+      (λ (l : c .caller ≤ 4). by-reading e l (answered readState current))
+      (below-or-not 4 (c .caller)))
       (λ e. absurd (not-refused 10 (lent-short refl (no-room (c .out) (c .scratch) e))))
     where
       not-refused : (x : ℕ) → ¬ CommitRefused current c x
@@ -91,10 +95,10 @@ module _ (current : List ℕ) (bytes : Bytes current) (c : Call) where
           let y : Place s (asks c ∷ []) next = (rw p at (states-hold.run (states.reading s) (asks c ∷ []) r (a .fit) .1)) .2 in
           (next, rw (outcome-accepted current s h c next p) (accepting-tells next (y .readable) (c .out) (c .scratch)))
 
-      by-reading : room (c .out) (c .scratch) ≡ true → ((s : State) × Holds current s) ⊎ ((k : Cause) × (wholly readState current ≡ refused k))
-          → (s : State) × Tells (outcome current c) s
-      by-reading e (inl r) = by-state (r .0) (r .1)
-      by-reading e (inr r) = absurd (not-refused (number (r .0)) (unreadable (r .0) refl (has-room (c .out) (c .scratch) e) (r .1)))
+      by-reading : room (c .out) (c .scratch) ≡ true → c .caller ≤ 4
+          → ((s : State) × Holds current s) ⊎ ((k : Cause) × (wholly readState current ≡ refused k)) → (s : State) × Tells (outcome current c) s
+      by-reading e l (inl r) = by-state (r .0) (r .1)
+      by-reading e l (inr r) = absurd (not-refused (number (r .0)) (unreadable (r .0) refl (has-room (c .out) (c .scratch) e) l (r .1)))
 
 -- ---- a ticket with no events
 

@@ -1,38 +1,42 @@
 -- Refusals of the calls (01, "Where a paper is sent back"): a call answers a number other than 0 exactly where it is that of the first cause that
--- applies (`plan-refusal`, `commit-refusal`; of 9 alone `plan-nine`, of 12 `commit-not-twelve`), so one to which none applies is accepted (`commit-accepted`);
+-- applies (`plan-refusal`, `commit-refusal`; of 9 alone `plan-nine`, of 11 and 12 `commit-neither`), so one to which none applies is accepted (`commit-accepted`);
 -- and a refusal returns "number, zeros elsewhere" and leaves the output as it was (`plan-zeros`, `latest-zeros`, `commit-zeros`). The causes of a planning are Run's `Unplanned`.
 -- Rests on Calls and on `temporal`'s causes.
 use mathlib.Core.Path.{_≡_, refl, sym, ap, subst, _∙_}
 use mathlib.Core.Bool.{Bool, true, false, cond}
 use mathlib.Core.List.{List, []}
-use mathlib.Core.Logic.{_↔_, _⊎_, inl, inr, _≢_}
-use Prim.Native.Nat.{ℕ}
+use mathlib.Core.Logic.{_↔_, _⊎_, inl, inr, ⊎-elim, _≢_}
+use Prim.Native.Nat.{ℕ, _≤_, _<_}
 use native.Mathlib.Omega.{arith}
 use lib.Dec.{T, not-T}
-use Rattle.temporal.specs.Lists.{T-true, T-false}
+use Rattle.temporal.specs.Lists.{T-true, T-false, below-or-not}
 use Rattle.temporal.specs.Ticket.{Ticket, Schedule}
 use Rattle.temporal.specs.Distance.{consistent, consistent-has}
-use Rattle.temporal.specs.Plan.{State, Answer, accepted, number as decision, asking, planned, plan, planLatest, cause, commit}
+use Rattle.temporal.specs.Plan.{State, Answer, accepted, number as decision, planned, plan, planLatest, cause}
 use Rattle.temporal.specs.Run.{Acceptable, FirstCause}
 use Rattle.temporal.specs.RunHolds.{distinct}
 use Rattle.temporal.specs.Answers.{plan-refused, commit-number}
-use Rattle.temporal.specs.Causes.{cause-iff, cause-not-twelve, acceptable, acceptable-accepted}
+use Rattle.temporal.specs.Causes.{cause-iff, cause-neither, acceptable, acceptable-accepted}
 use Rattle.ticket.specs.Parser.{Cause, Out, number, got, refused, wholly}
-use Rattle.ticket.specs.Laws.{number-some, number-not-nine, number-not-twelve}
+use Rattle.ticket.specs.Laws.{number-some, number-not-nine}
 use Rattle.ticket.specs.Format.{readTicket, readState}
 use Rattle.ticket.specs.RoundTrip.{Bytes, written-read-state, answered}
+use Rattle.ticket.specs.Malformed.{malformed-record}
 use Rattle.runs.specs.Calls as calls
 use Rattle.runs.specs.Calls.{Outcome, room, withoutRoom, afterReading}
-use Rattle.runs.specs.Calls.{planning, planning-short, planning-read, planningLatest, committing, committing-short, committing-read}
+use Rattle.runs.specs.Calls.{planning, planning-short, planning-read, planningLatest}
+use Rattle.runs.specs.Calls.{commitFor, commitRead, committing, committing-short, committing-read, commitRead-unknown, commitRead-known}
 use Rattle.runs.specs.Run.{Call, asks, outcome, Holds, Unplanned, short, unread, impossible}
 use Rattle.runs.specs.RunHolds.{answered-number, outcome-number}
 
--- x is the number of the first cause to refuse a commitment of any bytes (01, "Where a paper is sent back"; 02, change 4): 10, then the bytes are read, then
--- 15, 11, 13, 18
+-- x is the number of the first cause to refuse a commitment of any bytes (01, "Where a paper is sent back"; 02, changes 4 and 11): 10, 19, then the bytes are
+-- read, then 15, 20, 13, 18
 pub data CommitRefused (current : List ℕ) (c : Call) (x : ℕ) : Type 0 where
   lent-short : x ≡ 10 → ¬ T (room (c .out) (c .scratch)) → CommitRefused current c x
-  unreadable : (k : Cause) → x ≡ number k → T (room (c .out) (c .scratch)) → wholly readState current ≡ refused k → CommitRefused current c x
-  decided : (s : State) → T (room (c .out) (c .scratch)) → Holds current s → FirstCause s (asks c) x → CommitRefused current c x
+  unknown-caller : x ≡ 19 → T (room (c .out) (c .scratch)) → 4 < c .caller → CommitRefused current c x
+  unreadable : (k : Cause) → x ≡ number k → T (room (c .out) (c .scratch)) → c .caller ≤ 4 → wholly readState current ≡ refused k
+      → CommitRefused current c x
+  decided : (s : State) → T (room (c .out) (c .scratch)) → c .caller ≤ 4 → Holds current s → FirstCause s (asks c) x → CommitRefused current c x
 
 -- ---- planning
 
@@ -119,13 +123,21 @@ plan-nine ticket out scratch = (
 
 module _ (current : List ℕ) (bytes : Bytes current) (c : Call) where
   commit-short : room (c .out) (c .scratch) ≡ false → outcome current c .number ≡ 10
-  commit-short e = ap (λ (o : Outcome). o .number) (committing-short current (c .event) (c .opens) (c .closes) (c .out) (c .scratch) e)
+  commit-short e = ap (λ (o : Outcome). o .number) (committing-short current (c .caller) (c .event) (c .opens) (c .closes) (c .out) (c .scratch) e)
 
-  commit-unread : (k : Cause) → room (c .out) (c .scratch) ≡ true → wholly readState current ≡ refused k → outcome current c .number ≡ number k
-  commit-unread k e q =
+  commit-unknown : room (c .out) (c .scratch) ≡ true → 4 < c .caller → outcome current c .number ≡ 19
+  commit-unknown e l =
       ap (λ (o : Outcome). o .number)
-      (committing-read current (c .event) (c .opens) (c .closes) (c .out) (c .scratch) e
-      ∙ ap (afterReading (c .out) (c .scratch) (λ (s : State). commit s (asking (c .event) (c .opens) (c .closes)))) q)
+      (committing-read current (c .caller) (c .event) (c .opens) (c .closes) (c .out) (c .scratch) e
+      ∙ commitRead-unknown current (c .caller) (c .event) (c .opens) (c .closes) (c .out) (c .scratch) l)
+
+  commit-unread : (k : Cause) → room (c .out) (c .scratch) ≡ true → c .caller ≤ 4 → wholly readState current ≡ refused k
+      → outcome current c .number ≡ number k
+  commit-unread k e l q =
+      ap (λ (o : Outcome). o .number)
+      (committing-read current (c .caller) (c .event) (c .opens) (c .closes) (c .out) (c .scratch) e
+      ∙ commitRead-known current (c .caller) (c .event) (c .opens) (c .closes) (c .out) (c .scratch) l
+      ∙ ap (afterReading (c .out) (c .scratch) (commitFor (c .caller) (c .event) (c .opens) (c .closes))) q)
 
   -- the causes that it is tried for once the record is read
   commit-cause : (s : State) → Holds current s → (x : ℕ) → FirstCause s (asks c) x ↔ ((outcome current c .number ≡ x) × (x ≢ 0))
@@ -136,19 +148,23 @@ module _ (current : List ℕ) (bytes : Bytes current) (c : Call) where
 
   commit-caused : (x : ℕ) → outcome current c .number ≡ x → x ≢ 0 → CommitRefused current c x
   commit-caused x q n = by-room (c .out) (c .scratch)
-      (λ e. by-reading e (answered readState current))
+      (λ e. ⊎-elim
+      (λ (l : 4 < c .caller). unknown-caller (sym q ∙ commit-unknown e l) (has-room (c .out) (c .scratch) e) l)
+      (λ (l : c .caller ≤ 4). by-reading e l (answered readState current))
+      (below-or-not 4 (c .caller)))
       (λ e. lent-short (sym q ∙ commit-short e) (no-room (c .out) (c .scratch) e))
     where
-      by-reading : room (c .out) (c .scratch) ≡ true → ((s : State) × Holds current s) ⊎ ((k : Cause) × (wholly readState current ≡ refused k))
-          → CommitRefused current c x
-      by-reading e (inl r) = decided (r .0) (has-room (c .out) (c .scratch) e) (r .1) (commit-cause (r .0) (r .1) x .1 (q, n))
-      by-reading e (inr r) = unreadable (r .0) (sym q ∙ commit-unread (r .0) e (r .1)) (has-room (c .out) (c .scratch) e) (r .1)
+      by-reading : room (c .out) (c .scratch) ≡ true → c .caller ≤ 4
+          → ((s : State) × Holds current s) ⊎ ((k : Cause) × (wholly readState current ≡ refused k)) → CommitRefused current c x
+      by-reading e l (inl r) = decided (r .0) (has-room (c .out) (c .scratch) e) l (r .1) (commit-cause (r .0) (r .1) x .1 (q, n))
+      by-reading e l (inr r) = unreadable (r .0) (sym q ∙ commit-unread (r .0) e l (r .1)) (has-room (c .out) (c .scratch) e) l (r .1)
 
   commit-is-refused : (x : ℕ) → CommitRefused current c x → (outcome current c .number ≡ x) × (x ≢ 0)
   commit-is-refused x (lent-short e n) =
       (commit-short (T-false (room (c .out) (c .scratch)) (not-T (room (c .out) (c .scratch)) n)) ∙ sym e, λ z. omega (arith, z))
-  commit-is-refused x (unreadable k e t q) = (commit-unread k (T-true (room (c .out) (c .scratch)) t) q ∙ sym e, λ z. omega (arith, z, number-some k))
-  commit-is-refused x (decided s t h f) = commit-cause s h x .0 f
+  commit-is-refused x (unknown-caller e t l) = (commit-unknown (T-true (room (c .out) (c .scratch)) t) l ∙ sym e, λ z. omega (arith, z))
+  commit-is-refused x (unreadable k e t l q) = (commit-unread k (T-true (room (c .out) (c .scratch)) t) l q ∙ sym e, λ z. omega (arith, z, number-some k))
+  commit-is-refused x (decided s t l h f) = commit-cause s h x .0 f
 
   -- a commitment's number is x and not 0 exactly where x is the number of the first cause that applies
   pub commit-refusal : (x : ℕ) → CommitRefused current c x ↔ ((outcome current c .number ≡ x) × (x ≢ 0))
@@ -162,14 +178,18 @@ module _ (current : List ℕ) (bytes : Bytes current) (c : Call) where
         λ z. acceptable s (asks c) (rw (sym e ∙ z) tt),
       )
 
-  -- "Refusal 12 no longer occurs" (02, change 4)
-  pub commit-not-twelve : outcome current c .number ≢ 12
-  commit-not-twelve e = by (commit-refusal 12 .1 (e, λ z. omega (arith, z)))
+  -- "11, which does not occur here" (02, change 11); "Refusal 12 no longer occurs" (02, change 4)
+  pub commit-neither : (outcome current c .number ≢ 11) × (outcome current c .number ≢ 12)
+  commit-neither = (
+    λ e. by 11 e (omega arith) (omega arith) (λ s. cause-neither s (asks c) .0) (commit-refusal 11 .1 (e, λ z. omega (arith, z))),
+    λ e. by 12 e (omega arith) (omega arith) (λ s. cause-neither s (asks c) .1) (commit-refusal 12 .1 (e, λ z. omega (arith, z))),
+  )
     where
-      by : CommitRefused current c 12 → ⊥
-      by (lent-short q n) = omega (arith, q)
-      by (unreadable k q t r) = number-not-twelve k (sym q)
-      by (decided s t h f) = cause-not-twelve s (asks c) (sym (outcome-number current s h c ∙ commit-number s (asks c)) ∙ e)
+      by : (x : ℕ) → outcome current c .number ≡ x → 10 < x → x < 14 → ((s : State) → cause s (asks c) ≢ x) → CommitRefused current c x → ⊥
+      by x e l m n (lent-short q r) = omega (arith, q)
+      by x e l m n (unknown-caller q t d) = omega (arith, q)
+      by x e l m n (unreadable k q t d r) = ⊎-elim (λ h. omega (arith, q, h)) (λ h. omega (arith, q, h)) (malformed-record current k r)
+      by x e l m n (decided s t d h f) = n s (sym (outcome-number current s h c ∙ commit-number s (asks c)) ∙ e)
 
 -- ---- "number, zeros elsewhere"
 
@@ -202,7 +222,13 @@ module _ (out scratch : List ℕ) where
   unfolding planningLatest
   latest-zeros ticket = zeros-by (room out scratch) _ (zeros-read planLatest (wholly readTicket ticket))
 
-  pub commit-zeros : (current : List ℕ) (event opens closes : ℕ) → Zeros out (committing current event opens closes out scratch)
+  zeros-commit : (current : List ℕ) (caller event opens closes : ℕ) → Zeros out (commitRead current caller event opens closes out scratch)
+  zeros-commit current caller event opens closes = ⊎-elim
+      (λ (l : 4 < caller). rw (commitRead-unknown current caller event opens closes out scratch l) (λ n. (refl, refl, refl)))
+      (λ (l : caller ≤ 4).
+      rw (commitRead-known current caller event opens closes out scratch l) (zeros-read (commitFor caller event opens closes) (wholly readState current)))
+      (below-or-not 4 caller)
+
+  pub commit-zeros : (current : List ℕ) (caller event opens closes : ℕ) → Zeros out (committing current caller event opens closes out scratch)
   unfolding committing
-  commit-zeros current event opens closes =
-      zeros-by (room out scratch) _ (zeros-read (λ (s : State). commit s (asking event opens closes)) (wholly readState current))
+  commit-zeros current caller event opens closes = zeros-by (room out scratch) _ (zeros-commit current caller event opens closes)

@@ -1,4 +1,4 @@
--- What is claimed of a run at the level of bytes: 01's section "A run", with changes 4 and 5 of 02, for any start and any list of commitments, in
+-- What is claimed of a run at the level of bytes: 01's section "A run", with changes 4, 5 and 11 of 02, for any start and any list of commitments, in
 -- one statement; a list may name an event again, and the last window named counts.
 -- What a record's bytes hold is said by `ticket`'s reading; `temporal` says what a place, an allowed set and the chosen set are.
 use mathlib.Core.Path.{_≡_}
@@ -21,6 +21,7 @@ use Rattle.runs.specs.Calls.{Outcome, room, planning, committing}
 
 -- what one commitment brings: numbers of any value, an output and scratch of any length and content
 pub record Call : Type 0 where
+  pub caller : ℕ
   pub event : ℕ
   pub opens : ℕ
   pub closes : ℕ
@@ -29,11 +30,11 @@ pub record Call : Type 0 where
 
 -- the same, with of output and scratch only whether they are long enough
 abbrev pub asks : Call → Commitment
-asks c = record { room = room (c .out) (c .scratch); event = c .event; opens = c .opens; closes = c .closes }
+asks c = record { room = room (c .out) (c .scratch); caller = c .caller; event = c .event; opens = c .opens; closes = c .closes }
 
 -- the outcome of the call that is handed the current record
 abbrev pub outcome : List ℕ → Call → Outcome
-outcome current c = committing current (c .event) (c .opens) (c .closes) (c .out) (c .scratch)
+outcome current c = committing current (c .caller) (c .event) (c .opens) (c .closes) (c .out) (c .scratch)
 
 -- what a call wrote: as many bytes of its output as the length returned
 abbrev pub written : Outcome → List ℕ

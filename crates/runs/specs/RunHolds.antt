@@ -2,15 +2,17 @@
 use mathlib.Core.Path.{_≡_, refl, sym, ap, subst, _∙_}
 use mathlib.Core.Bool.{Bool, true, false}
 use mathlib.Core.List.{List, [], _∷_, map}
-use mathlib.Core.Logic.{_≢_}
-use Prim.Native.Nat.{ℕ}
+use mathlib.Core.Logic.{⊎-elim, _≢_}
+use Prim.Native.Nat.{ℕ, _≤_, _<_}
 use native.Mathlib.Omega.{arith}
+use borrow.Author.Tests.{lt-ltb}
 use lib.Dec.{T}
 use lib.ListN.{length, drop, replicate}
 use lib.Seq.{take-at}
+use Rattle.temporal.specs.Lists.{below-or-not}
 use Rattle.temporal.specs.Ticket.{Ticket, Schedule, Fit}
 use Rattle.temporal.specs.Best.{Chosen}
-use Rattle.temporal.specs.Plan.{State, Commitment, Answer, number as decided, flagged, plan, cause, commit, asking}
+use Rattle.temporal.specs.Plan.{State, Commitment, Answer, number as decided, flagged, plan, cause, commit}
 use Rattle.temporal.specs.Run.{Valid, Readable, Acceptable, FirstCause, Place, Allowed, Answered}
 use Rattle.temporal.specs.Answers.{commit-number}
 use Rattle.temporal.specs.Causes.{acceptable, first-refuses, fit-cause}
@@ -22,7 +24,8 @@ use Rattle.ticket.specs.Format.{readTicket, readState}
 use Rattle.ticket.specs.Writer.{writeTicket, writeState}
 use Rattle.ticket.specs.Writing.{over}
 use Rattle.ticket.specs.RoundTrip.{Bytes, read-written-state, read-written, written-read, written-read-state}
-use Rattle.runs.specs.Calls.{Outcome, room, withoutRoom, accepting, answered, afterReading, planning, planning-short, planning-read, committing-short, committing-read}
+use Rattle.runs.specs.Calls.{Outcome, room, withoutRoom, accepting, answered, afterReading, planning, planning-short, planning-read}
+use Rattle.runs.specs.Calls.{commitFor, committing-short, committing-read, commitRead-unknown, commitRead-known}
 use Rattle.runs.specs.Run.{Call, asks, outcome, written, Holds, Claim, Planned, Unplanned, short, unread, impossible, Start, planned, given, Run}
 
 pub answered-number : (out scratch : List ℕ) (a : Answer) → answered out scratch a .number ≡ decided a
@@ -39,11 +42,26 @@ holds-written s r out scratch =
 -- ---- a commitment that is handed a readable record answers as `temporal`'s does of what the record holds
 
 module _ (current : List ℕ) (now : State) (holds : Holds current now) (c : Call) where
+  unknown-cause : room (c .out) (c .scratch) ≡ true → 4 < c .caller → cause now (asks c) ≡ 19
+  unfolding cause
+  unknown-cause e l = rw (e, lt-ltb 4 (c .caller) l)
+
+  unknown-refused : room (c .out) (c .scratch) ≡ true → 4 < c .caller → commit now (asks c) ≡ Answer.refused 19
+  unfolding commit
+  unknown-refused e l = rw (unknown-cause e l)
+
   roomy : room (c .out) (c .scratch) ≡ true → outcome current c ≡ answered (c .out) (c .scratch) (commit now (asks c))
   roomy e =
-      committing-read current (c .event) (c .opens) (c .closes) (c .out) (c .scratch) e
-      ∙ ap (afterReading (c .out) (c .scratch) (λ (s : State). commit s (asking (c .event) (c .opens) (c .closes)))) holds
-      ∙ ap (λ b. answered (c .out) (c .scratch) (commit now (record { room = b; event = c .event; opens = c .opens; closes = c .closes }))) (sym e)
+      committing-read current (c .caller) (c .event) (c .opens) (c .closes) (c .out) (c .scratch) e
+      ∙ ⊎-elim
+      (λ (l : 4 < c .caller).
+      commitRead-unknown current (c .caller) (c .event) (c .opens) (c .closes) (c .out) (c .scratch) l
+      ∙ ap (answered (c .out) (c .scratch)) (sym (unknown-refused e l)))
+      (λ (l : c .caller ≤ 4).
+      commitRead-known current (c .caller) (c .event) (c .opens) (c .closes) (c .out) (c .scratch) l
+      ∙ ap (afterReading (c .out) (c .scratch) (commitFor (c .caller) (c .event) (c .opens) (c .closes))) holds
+      ∙ ap (λ b. answered (c .out) (c .scratch) (commit now (record { room = b; caller = c .caller; event = c .event; opens = c .opens; closes = c .closes }))) (sym e))
+      (below-or-not 4 (c .caller))
 
   short-cause : room (c .out) (c .scratch) ≡ false → cause now (asks c) ≡ 10
   unfolding cause
@@ -54,7 +72,7 @@ module _ (current : List ℕ) (now : State) (holds : Holds current now) (c : Cal
   short-refused e = rw (short-cause e)
 
   pub outcome-short : room (c .out) (c .scratch) ≡ false → outcome current c .number ≡ 10
-  outcome-short e = ap (λ (o : Outcome). o .number) (committing-short current (c .event) (c .opens) (c .closes) (c .out) (c .scratch) e)
+  outcome-short e = ap (λ (o : Outcome). o .number) (committing-short current (c .caller) (c .event) (c .opens) (c .closes) (c .out) (c .scratch) e)
 
   pub outcome-number : outcome current c .number ≡ decided (commit now (asks c))
   outcome-number = by (room (c .out) (c .scratch)) refl

@@ -2,7 +2,7 @@
 -- `commit-ten`). With 2,400 numbers or more of scratch, what is returned and written depends neither on how many there are nor on what they hold (`plan-alike`,
 -- `latest-alike`, `commit-alike`). After every answer but 10 the first 2,400 are 0 and the rest is as it was, and after 10 all are as they were (`plan-leaves`,
 -- `latest-leaves`, `commit-leaves`). Rests on Calls, Refusals and Latest.
-use mathlib.Core.Path.{_≡_, refl, sym, ap, subst, _∙_}
+use mathlib.Core.Path.{_≡_, refl, ap, _∙_}
 use mathlib.Core.Bool.{Bool, true, false, cond, _&&_}
 use mathlib.Core.List.{List}
 use mathlib.Core.Logic.{_↔_, _⊎_, inl, inr, ⊎-elim, _≢_}
@@ -13,7 +13,7 @@ use lib.Dec.{T, leb}
 use lib.ListN.{length, take, drop, replicate, length-replicate}
 use lib.Seq.{take-at, drop-at}
 use Rattle.temporal.specs.Lists.{below-or-not}
-use Rattle.temporal.specs.Plan.{State, Answer, asking, plan, planLatest, commit}
+use Rattle.temporal.specs.Plan.{State, Answer, plan, planLatest}
 use Rattle.temporal.specs.Run as states
 use Rattle.ticket.specs.Parser.{Out, wholly}
 use Rattle.ticket.specs.Format.{readTicket, readState}
@@ -22,8 +22,9 @@ use Rattle.ticket.specs.Malformed.{malformed-number, malformed-record}
 use Rattle.runs.specs.Calls.{Outcome, room, zeroed, cleared, withoutRoom, answered, afterReading, planning, planningLatest, committing}
 use Rattle.runs.specs.Calls.{enough-room, no-room-out, no-room-scratch, planning-short, planning-read}
 use Rattle.runs.specs.Calls.{planningLatest-short, planningLatest-read, committing-short, committing-read}
+use Rattle.runs.specs.Calls.{commitFor, commitRead, commitRead-unknown, commitRead-known}
 use Rattle.runs.specs.Run.{Call, asks, outcome, Unplanned, short, unread, impossible}
-use Rattle.runs.specs.Refusals.{CommitRefused, lent-short, unreadable, decided, by-room, has-room, no-room, plan-refusal, commit-refusal}
+use Rattle.runs.specs.Refusals.{CommitRefused, lent-short, unknown-caller, unreadable, decided, by-room, has-room, no-room, plan-refusal, commit-refusal}
 use Rattle.runs.specs.Latest.{latest-refusal}
 
 -- ---- what is claimed
@@ -94,15 +95,17 @@ commit-ten current bytes c = (
   where
     by-cause : (s : State) → states.FirstCause s (asks c) 10 → Short (c .out) (c .scratch)
     by-cause s (states.short e n) = no-room-short (c .out) (c .scratch) n
-    by-cause s (states.unfit e t n) = absurd (omega (arith, e))
-    by-cause s (states.no-event e t f n) = absurd (omega (arith, e))
-    by-cause s (states.outside e t f v n) = absurd (omega (arith, e))
-    by-cause s (states.full e t f v i k) = absurd (omega (arith, e))
+    by-cause s (states.unknown e t l) = absurd (omega (arith, e))
+    by-cause s (states.unfit e t l n) = absurd (omega (arith, e))
+    by-cause s (states.not-own e t l f n) = absurd (omega (arith, e))
+    by-cause s (states.outside e t l f v n) = absurd (omega (arith, e))
+    by-cause s (states.full e t l f v i k) = absurd (omega (arith, e))
 
     by : CommitRefused current c 10 → Short (c .out) (c .scratch)
     by (lent-short e n) = no-room-short (c .out) (c .scratch) n
-    by (unreadable k e t q) = ⊎-elim (λ l. absurd (omega (arith, e, l))) (λ z. absurd (omega (arith, e, z))) (malformed-record current k q)
-    by (decided s t h f) = by-cause s f
+    by (unknown-caller e t l) = absurd (omega (arith, e))
+    by (unreadable k e t d q) = ⊎-elim (λ l. absurd (omega (arith, e, l))) (λ z. absurd (omega (arith, e, z))) (malformed-record current k q)
+    by (decided s t d h f) = by-cause s f
 
 -- ---- what is returned and written
 
@@ -114,6 +117,18 @@ pub read-alike : {A : Type 0} (out s z : List ℕ) (decide : A → Answer) (o : 
 read-alike out s z decide (Out.got x rest) = answered-alike out s z (decide x)
 read-alike out s z decide (Out.refused k) = record { number = refl; length = refl; total = refl; out = refl }
 
+-- by the caller of a commitment
+module _ (current : List ℕ) (caller event opens closes : ℕ) where
+  pub commitRead-alike : (out s z : List ℕ) → Alike (commitRead current caller event opens closes out s) (commitRead current caller event opens closes out z)
+  commitRead-alike out s z = ⊎-elim
+      (λ (l : 4 < caller).
+      rw (commitRead-unknown current caller event opens closes out s l, commitRead-unknown current caller event opens closes out z l)
+      (record { number = refl; length = refl; total = refl; out = refl }))
+      (λ (l : caller ≤ 4).
+      rw (commitRead-known current caller event opens closes out s l, commitRead-known current caller event opens closes out z l)
+      (read-alike out s z (commitFor caller event opens closes) (wholly readState current)))
+      (below-or-not 4 caller)
+
 room-is : (out scratch : List ℕ) → 2400 ≤ length scratch → room out scratch ≡ leb 1958 (length out)
 unfolding room
 room-is out scratch l = rw (le-leb 2400 (length scratch) l) (by (leb 1958 (length out)))
@@ -123,26 +138,25 @@ room-is out scratch l = rw (le-leb 2400 (length scratch) l) (by (leb 1958 (lengt
     by false = refl
 
 module _ (out s z : List ℕ) (l : 2400 ≤ length s) (m : 2400 ≤ length z) where
-  call-alike : {A : Type 0} (decide : A → Answer) (o : Out A)
-      → Alike (cond (room out s) (afterReading out s decide o) (withoutRoom out s)) (cond (room out z) (afterReading out z decide o) (withoutRoom out z))
-  call-alike decide o = rw (room-is out s l, room-is out z m) (by (leb 1958 (length out)))
+  call-alike : (o p : Outcome) → Alike o p → Alike (cond (room out s) o (withoutRoom out s)) (cond (room out z) p (withoutRoom out z))
+  call-alike o p h = rw (room-is out s l, room-is out z m) (by (leb 1958 (length out)))
     where
-      by : (b : Bool) → Alike (cond b (afterReading out s decide o) (withoutRoom out s)) (cond b (afterReading out z decide o) (withoutRoom out z))
-      by true = read-alike out s z decide o
+      by : (b : Bool) → Alike (cond b o (withoutRoom out s)) (cond b p (withoutRoom out z))
+      by true = h
       by false = record { number = refl; length = refl; total = refl; out = refl }
 
   pub plan-alike : (ticket : List ℕ) → Alike (planning ticket out s) (planning ticket out z)
   unfolding planning
-  plan-alike ticket = call-alike plan (wholly readTicket ticket)
+  plan-alike ticket = call-alike _ _ (read-alike out s z plan (wholly readTicket ticket))
 
   pub latest-alike : (ticket : List ℕ) → Alike (planningLatest ticket out s) (planningLatest ticket out z)
   unfolding planningLatest
-  latest-alike ticket = call-alike planLatest (wholly readTicket ticket)
+  latest-alike ticket = call-alike _ _ (read-alike out s z planLatest (wholly readTicket ticket))
 
-  pub commit-alike : (current : List ℕ) (event opens closes : ℕ)
-      → Alike (committing current event opens closes out s) (committing current event opens closes out z)
+  pub commit-alike : (current : List ℕ) (caller event opens closes : ℕ)
+      → Alike (committing current caller event opens closes out s) (committing current caller event opens closes out z)
   unfolding committing
-  commit-alike current event opens closes = call-alike (λ (x : State). commit x (asking event opens closes)) (wholly readState current)
+  commit-alike current caller event opens closes = call-alike _ _ (commitRead-alike current caller event opens closes out s z)
 
 -- ---- what is left in the scratch
 
@@ -162,18 +176,26 @@ pub read-clears : {A : Type 0} (out scratch : List ℕ) (decide : A → Answer) 
 read-clears out scratch decide (Out.got x rest) = answered-clears out scratch (decide x)
 read-clears out scratch decide (Out.refused k) = refl
 
+pub commitRead-clears : (current : List ℕ) (caller event opens closes : ℕ) (out scratch : List ℕ)
+    → commitRead current caller event opens closes out scratch .scratch ≡ cleared scratch
+commitRead-clears current caller event opens closes out scratch = ⊎-elim
+    (λ (l : 4 < caller). ap (λ (o : Outcome). o .scratch) (commitRead-unknown current caller event opens closes out scratch l))
+    (λ (l : caller ≤ 4).
+    ap (λ (o : Outcome). o .scratch) (commitRead-known current caller event opens closes out scratch l)
+    ∙ read-clears out scratch (commitFor caller event opens closes) (wholly readState current))
+    (below-or-not 4 caller)
+
 leaves-short : (out scratch : List ℕ) {o : Outcome} → o ≡ withoutRoom out scratch → Leaves scratch o
 leaves-short out scratch e = rw e (record { clears = λ n. absurd (n refl); rest = refl; untouched = λ z. refl })
 
-module _ (out scratch : List ℕ) {A : Type 0} (decide : A → Answer) (read : Out A) {o : Outcome} where
-  leaves-read : o ≡ afterReading out scratch decide read → o .number ≢ 10 → Leaves scratch o
-  leaves-read e n =
-      let c : o .scratch ≡ cleared scratch = ap (λ (x : Outcome). x .scratch) e ∙ read-clears out scratch decide read in
-      record {
-        clears = λ m. rw c (zeroed-take 2400 scratch);
-        rest = rw c (zeroed-drop 2400 scratch);
-        untouched = λ z. absurd (n z);
-      }
+leaves-read : (scratch : List ℕ) {o read : Outcome} → o ≡ read → read .scratch ≡ cleared scratch → o .number ≢ 10 → Leaves scratch o
+leaves-read scratch {o} e clears n =
+    let c : o .scratch ≡ cleared scratch = ap (λ (x : Outcome). x .scratch) e ∙ clears in
+    record {
+      clears = λ m. rw c (zeroed-take 2400 scratch);
+      rest = rw c (zeroed-drop 2400 scratch);
+      untouched = λ z. absurd (n z);
+    }
 
 module _ (out scratch : List ℕ) where
   not-ten : {x : ℕ} → room out scratch ≡ true → (x ≡ 10) ↔ Short out scratch → x ≢ 10
@@ -181,17 +203,19 @@ module _ (out scratch : List ℕ) where
 
   pub plan-leaves : (ticket : List ℕ) → Leaves scratch (planning ticket out scratch)
   plan-leaves ticket = by-room out scratch
-      (λ e. leaves-read out scratch plan (wholly readTicket ticket) (planning-read ticket out scratch e) (not-ten e (plan-ten out scratch ticket)))
+      (λ e. leaves-read scratch (planning-read ticket out scratch e) (read-clears out scratch plan (wholly readTicket ticket)) (not-ten e (plan-ten out scratch ticket)))
       (λ e. leaves-short out scratch (planning-short ticket out scratch e))
 
   pub latest-leaves : (ticket : List ℕ) → Leaves scratch (planningLatest ticket out scratch)
   latest-leaves ticket = by-room out scratch
-      (λ e. leaves-read out scratch planLatest (wholly readTicket ticket) (planningLatest-read ticket out scratch e) (not-ten e (latest-ten out scratch ticket)))
+      (λ e. leaves-read scratch (planningLatest-read ticket out scratch e) (read-clears out scratch planLatest (wholly readTicket ticket))
+      (not-ten e (latest-ten out scratch ticket)))
       (λ e. leaves-short out scratch (planningLatest-short ticket out scratch e))
 
 pub commit-leaves : (current : List ℕ) → Bytes current → (c : Call) → Leaves (c .scratch) (outcome current c)
 commit-leaves current bytes c = by-room (c .out) (c .scratch)
-    (λ e. leaves-read (c .out) (c .scratch) (λ (s : State). commit s (asking (c .event) (c .opens) (c .closes))) (wholly readState current)
-    (committing-read current (c .event) (c .opens) (c .closes) (c .out) (c .scratch) e)
+    (λ e. leaves-read (c .scratch)
+    (committing-read current (c .caller) (c .event) (c .opens) (c .closes) (c .out) (c .scratch) e)
+    (commitRead-clears current (c .caller) (c .event) (c .opens) (c .closes) (c .out) (c .scratch))
     (not-ten (c .out) (c .scratch) e (commit-ten current bytes c)))
-    (λ e. leaves-short (c .out) (c .scratch) (committing-short current (c .event) (c .opens) (c .closes) (c .out) (c .scratch) e))
+    (λ e. leaves-short (c .out) (c .scratch) (committing-short current (c .caller) (c .event) (c .opens) (c .closes) (c .out) (c .scratch) e))

@@ -16,11 +16,11 @@ use Rattle.ticket.specs.RoundTrip.{Bytes}
 
 -- ---- lists of bytes
 
-one-more : (b : ℕ) (s : List ℕ) → b < 256 → Bytes s → Bytes (b ∷ s)
+pub one-more : (b : ℕ) (s : List ℕ) → b < 256 → Bytes s → Bytes (b ∷ s)
 one-more b s l h zero = l
 one-more b s l h (suc i) = h i
 
-after-each-other : (s t : List ℕ) → Bytes s → Bytes t → Bytes (s ++ t)
+pub after-each-other : (s t : List ℕ) → Bytes s → Bytes t → Bytes (s ++ t)
 after-each-other [] t h k = k
 after-each-other (b ∷ s) t h k = one-more b (s ++ t) (h 0) (after-each-other s t (λ i. h (suc i)) k)
 
@@ -28,12 +28,12 @@ every-one : (s : List ℕ) → All (λ b. b < 256) s → Bytes s
 every-one [] h = λ i. omega arith
 every-one (b ∷ s) h = one-more b s (h .0) (every-one s (h .1))
 
-number-bytes : (k x : ℕ) → Bytes (bytes k x)
+pub number-bytes : (k x : ℕ) → Bytes (bytes k x)
 unfolding bytes
 number-bytes zero x = λ i. omega arith
 number-bytes (suc k) x = one-more (x % 256) (bytes k (x / 256)) (omega arith) (number-bytes k (x / 256))
 
-each-bytes : {A : Type 0} (w : A → List ℕ) (xs : List A) → All (λ x. Bytes (w x)) xs → Bytes (each w xs)
+pub each-bytes : {A : Type 0} (w : A → List ℕ) (xs : List A) → All (λ x. Bytes (w x)) xs → Bytes (each w xs)
 unfolding each
 each-bytes w [] h = λ i. omega arith
 each-bytes w (x ∷ xs) h = after-each-other (w x) (each w xs) (h .0) (each-bytes w xs (h .1))
@@ -55,7 +55,7 @@ valid-bytes k v =
     (after-each-other (bytes 2 (length (k .rules))) _ (number-bytes 2 (length (k .rules)))
     (each-bytes writeRule (k .rules) (All-map (rule-bytes (length (k .owners)) (v .events-limit)) (k .rules) (v .rules-valid))))))
 
-window-bytes : (e : Entry) → Bytes (writeWindow e)
+pub window-bytes : (e : Entry) → Bytes (writeWindow e)
 unfolding writeWindow
 window-bytes e =
     let a = e .window .opens in

@@ -29,10 +29,10 @@ pub record Planned (t : Ticket) (opens closes opens' closes' : List ℕ) (r : Bo
   pub opens-past : Within (t .events) opens opens'
   pub closes-past : Within (t .events) closes closes'
 
--- a commitment that nothing refuses, whatever the counts are, unless the owner's is 65,535
+-- a commitment in the owner's name that nothing refuses, whatever the counts are, unless the owner's is 65,535
 pub record Committed (t : Ticket) (flags opens closes flags' opens' closes' : List ℕ) (event first last : ℕ) : Type 0 where
   pub answer : (counts : List ℕ) → getD counts (ownerOf (content t) event) 0 ≢ 65535
-      → commit (stateIn t flags opens closes counts) (asking event first last)
+      → commit (stateIn t flags opens closes counts) (asking (ownerOf (content t) event) event first last)
       ≡ accepted (stateIn t flags' opens' closes' (raise counts (ownerOf (content t) event)))
   pub lie : Lie t opens' closes'
   pub flags-are : flags' ≡ set flags (event - 1) 1

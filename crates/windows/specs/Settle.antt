@@ -6,7 +6,7 @@ use mathlib.Core.Logic.{_≢_}
 use mathlib.Core.List.{List}
 use native.Mathlib.Omega.{arith}
 use lib.Dec.{T, eqb}
-use lib.ListN.{length, getD, set, length-set, replicate, length-replicate, getD-replicate}
+use lib.ListN.{length, getD, set, length-set, replicate, length-replicate}
 use lib.Seq.{ext-getD, getD-set-same, getD-set-other}
 use Rattle.temporal.specs.Lists.{below-All}
 use Rattle.temporal.specs.Ticket as temporal
@@ -168,17 +168,17 @@ module _ (n i : ℕ) (lt : i < n) where
   unfolding flagList
   put-flag flags l = firsts-set n _ _ i _ lt (ap (λ x. eqb x 1) (getD-set-same flags i 1 0 l)) (λ j q. ap (λ x. eqb x 1) (getD-set-other flags i j 1 0 q))
 
--- a commitment that nothing refuses, where the owner's count can rise
+-- a commitment in the owner's name that nothing refuses, where the owner's count can rise
 pub record Asked (t : Ticket) (flags opens closes : List ℕ) (event o c : ℕ) : Type 0 where
   pub valid : Valid (content t)
-  pub passes : cause (stateIn t flags opens closes (replicate 5 0)) (asking event o c) ≡ 0
+  pub passes : cause (stateIn t flags opens closes (replicate 5 0)) (asking (ownerOf (content t) event) event o c) ≡ 0
   pub flags-long : length flags ≡ 40
   pub opens-long : length opens ≡ 40
   pub closes-long : length closes ≡ 40
 
 module _ {t : Ticket} {flags opens closes : List ℕ} {event o c : ℕ} (A : Asked t flags opens closes event o c) where
-  asked : Acceptable (stateIn t flags opens closes (replicate 5 0)) (asking event o c)
-  asked = acceptable (stateIn t flags opens closes (replicate 5 0)) (asking event o c) (rw (A .passes) tt)
+  asked : Acceptable (stateIn t flags opens closes (replicate 5 0)) (asking (ownerOf (content t) event) event o c)
+  asked = acceptable (stateIn t flags opens closes (replicate 5 0)) (asking (ownerOf (content t) event) event o c) (rw (A .passes) tt)
 
   pub asked-event : (0 < event) × (event ≤ t .events) × (event ≤ 40)
   asked-event = (asked .event .0, rw (in-events t) at (asked .event .1), omega (arith, asked .event .1, A .valid .events-limit))
@@ -209,13 +209,13 @@ module _ {t : Ticket} {flags opens closes : List ℕ} {event o c : ℕ} (A : Ask
       → Chosen (content t) (Grows (content t) (flagList (t .events) (set flags (event - 1) 1)) (windowList (t .events) (set opens (event - 1) o) (set closes (event - 1) c)))
       (windowList (t .events) opens' closes')
       → (counts : List ℕ) → getD counts (ownerOf (content t) event) 0 ≢ 65535
-      → commit (stateIn t flags opens closes counts) (asking event o c)
+      → commit (stateIn t flags opens closes counts) (asking (ownerOf (content t) event) event o c)
       ≡ accepted (stateIn t (set flags (event - 1) 1) opens' closes' (raise counts (ownerOf (content t) event)))
   unfolding windowList flagList
   commit-answer opens' closes' C counts n =
       rw flag-is
-      (commit-is (stateIn t flags opens closes counts) (asking event o c) (windowList (t .events) opens' closes')
-      (cause-counts (stateIn t flags opens closes (replicate 5 0)) (asking event o c) counts n (A .passes)) (rw (flag-is, window-is) at C))
+      (commit-is (stateIn t flags opens closes counts) (asking (ownerOf (content t) event) event o c) (windowList (t .events) opens' closes')
+      (cause-counts (stateIn t flags opens closes (replicate 5 0)) (asking (ownerOf (content t) event) event o c) counts n (A .passes)) (rw (flag-is, window-is) at C))
 
   -- the store of the new window stays within the events
   pub asked-within : {xs' : List ℕ} (xs : List ℕ) (x : ℕ) → Within (t .events) (set xs (event - 1) x) xs' → Within (t .events) xs xs'

@@ -1,6 +1,6 @@
 -- Laws of stores in a row: what stands in the output after the parts of a ticket. Assumes nothing.
 use Prim.Native.Nat.{ℕ, suc, _+_, _*_, _≤_}
-use mathlib.Core.Path.{_≡_, sym, ap, _∙_}
+use mathlib.Core.Path.{_≡_, refl, sym, ap, _∙_}
 use mathlib.Core.List.{List, [], _∷_, _++_, append-assoc, append-nil}
 use native.Mathlib.Nat.{add-zero}
 use native.Mathlib.Omega.{arith}
@@ -32,10 +32,14 @@ sets-more l at i f =
     ∙ sets-append (firsts i f) (f i ∷ []) l at
     ∙ ap (λ k. set (sets l at (firsts i f)) (at + k) (f i)) (length-firsts i f)
 
-each-append : {A : Type 0} (w : A → List ℕ) (xs : List A) (y : A) → each w (xs ++ y ∷ []) ≡ each w xs ++ w y
+pub each-append : {A : Type 0} (w : A → List ℕ) (xs ys : List A) → each w (xs ++ ys) ≡ each w xs ++ each w ys
 unfolding each
-each-append w [] y = append-nil (w y)
-each-append w (x ∷ xs) y = ap (λ l. w x ++ l) (each-append w xs y) ∙ sym (append-assoc (w x) (each w xs) (w y))
+each-append w [] ys = refl
+each-append w (x ∷ xs) ys = ap (λ l. w x ++ l) (each-append w xs ys) ∙ sym (append-assoc (w x) (each w xs) (each w ys))
+
+each-one : {A : Type 0} (w : A → List ℕ) (y : A) → each w (y ∷ []) ≡ w y
+unfolding each
+each-one w y = append-nil (w y)
 
 pub length-rules : (i : ℕ) (f : ℕ → Rule) → length (each writeRule (firsts i f)) ≡ 6 * i
 length-rules i f = omega (arith, length-each writeRule 6 length-rule (firsts i f), length-firsts i f)
@@ -45,7 +49,7 @@ pub sets-each : {A : Type 0} (w : A → List ℕ) (l : List ℕ) (at i : ℕ) (f
     → sets l at (each w (firsts (i + 1) f)) ≡ sets (sets l at (each w (firsts i f))) p (w (f i))
 sets-each w l at i f p e =
     ap (λ xs. sets l at (each w xs)) (firsts-more i f)
-    ∙ ap (sets l at) (each-append w (firsts i f) (f i))
+    ∙ ap (sets l at) (each-append w (firsts i f) (f i ∷ []) ∙ ap (λ m. each w (firsts i f) ++ m) (each-one w (f i)))
     ∙ sets-append (each w (firsts i f)) (w (f i)) l at
     ∙ ap (λ k. sets (sets l at (each w (firsts i f))) k (w (f i))) e
 

@@ -1,9 +1,7 @@
 -- `plan::commit` meets its contract: 10 first, then what was read and decided, then the scratch is cleared. Assumes nothing.
 use native.Mathlib.Omega.{arith}
-use Rattle.temporal.specs.Plan.{State, commit, asking}
-use Rattle.ticket.specs.Parser.{wholly}
-use Rattle.ticket.specs.Format.{readState}
 use Rattle.runs.specs.Calls.{committing-read, committing-short}
+use Rattle.runs.specs.Scratch.{commitRead-clears}
 use Rattle.causes.specs.Room.{short-room, long-room, long-enough}
 use Rattle.plan.specs.Meets.{whole-short, whole-read}
 use borrow.Author.Needs.{needs}
@@ -14,7 +12,7 @@ returns : tie.Need-returns
 returns c =
     let entry : tie.Start = search needs in
     let s = entry .args in
-    whole-short (s .out .now) (s .scratch .now) (committing-short (s .record .now) (s .event) (s .opens) (s .closes) (s .out .now) (s .scratch .now)
+    whole-short (s .out .now) (s .scratch .now) (committing-short (s .record .now) (s .caller) (s .event) (s .opens) (s .closes) (s .out .now) (s .scratch .now)
     (short-room (s .out .now) (s .scratch .now) (c .before .before .short .ensures) (c .before .if1 .taken))) (c .refusal .ensures)
 
 commit-bytes-requires : tie.Need-commit-bytes-requires
@@ -38,9 +36,10 @@ returns-2 c =
     let after-short : tie.After-short = search needs in
     let entry : tie.Start = search needs in
     let s = entry .args in
-    whole-read (s .out .now) (s .scratch .now) (λ (x : State). commit x (asking (s .event) (s .opens) (s .closes))) (wholly readState (s .record .now))
-    (committing-read (s .record .now) (s .event) (s .opens) (s .closes) (s .out .now) (s .scratch .now)
+    whole-read (s .scratch .now)
+    (committing-read (s .record .now) (s .caller) (s .event) (s .opens) (s .closes) (s .out .now) (s .scratch .now)
     (long-room (s .out .now) (s .scratch .now) (after-short .short .ensures) (roomy .if1 .left)))
+    (commitRead-clears (s .record .now) (s .caller) (s .event) (s .opens) (s .closes) (s .out .now) (s .scratch .now))
     (after-commit-bytes .commit-bytes .ensures) (c .before .before .clear .ensures)
 
 pub commit-spec : {M : Type 1} → statement M

@@ -4,9 +4,8 @@ use mathlib.Core.Path.{sym, _∙_}
 use native.Mathlib.Omega.{arith}
 use lib.Seq.{length-take-le}
 use Rattle.network.specs.Stored.{at}
-use Rattle.causes.specs.Structs.{canonical-few}
 use Rattle.causes.specs.Zeroed.{past-part}
-use Rattle.plan.specs.Steps.{commit-asked, canonical-committed, owner-counted}
+use Rattle.plan.specs.Steps.{commit-asked, canonical-committed, caller-counted}
 use borrow.Author.Needs.{needs}
 use Rattle.plan.proofs.commit_event.Statement.{statement}
 use Rattle.plan.proofs.commit_event.Tie as tie
@@ -22,23 +21,12 @@ slice-aggregate-commit-window c =
 commit-window-requires : tie.Need-commit-window-requires
 commit-window-requires c κs =
     let entry : tie.Start = search needs in
-    commit-asked (entry .args .r) (entry .pre .0 .0) (entry .args .event) (entry .args .opens) (entry .args .closes)
-    (length-take-le 1824 (entry .args .scratch .now) (omega (arith, entry .pre .1))) (entry .pre .0 .1)
+    commit-asked (entry .args .r) (entry .pre .0 .0) (entry .args .caller) (entry .args .event) (entry .args .opens) (entry .args .closes) (entry .pre .0 .1)
+    (length-take-le 1824 (entry .args .scratch .now) (omega (arith, entry .pre .1)))
 
-few-events : tie.Need-owner-of-requires
-few-events c κs =
-    let entry : tie.Start = search needs in
-    canonical-few (entry .args .r) (entry .pre .0 .0)
-
--- the start of the function, from where the owner is known
-abbrev start : tie.After-owner-of → tie.Start
-start c = c .before .before .before .before .before .before .before .before .before .before .before .before .before .before .before
-
--- the owner is a device, and its count can rise
-owner-known : (c : tie.After-owner-of) → (c .owner-of .result < 5) × (at (start c .args .r .counts) (c .owner-of .result) ≤ 65535)
-owner-known c =
-    let a = start c .args in
-    owner-counted (a .r) (start c .pre .0 .0) (a .event) (a .opens) (a .closes) (start c .pre .0 .1) (c .owner-of .ensures)
+-- the caller is a device, and its count can rise
+known : (s : tie.Start) → (s .args .caller < 5) × (at (s .args .r .counts) (s .args .caller) ≤ 65535)
+known s = caller-counted (s .args .r) (s .pre .0 .0) (s .args .caller) (s .args .event) (s .args .opens) (s .args .closes) (s .pre .0 .1)
 
 same-length : tie.Need-same-length
 same-length c = search needs
@@ -46,10 +34,9 @@ same-length c = search needs
 returns : tie.Need-returns
 returns c =
     let entry : tie.Start = search needs in
-    let after-commit-window : tie.After-commit-window = search needs in
-    let after-owner-of : tie.After-owner-of = search needs in (
-      canonical-committed (entry .args .r) (entry .pre .0 .0) (entry .args .event) (entry .args .opens) (entry .args .closes) (entry .pre .0 .1)
-          (after-commit-window .commit-window .ensures .0) (after-owner-of .owner-of .ensures),
+    let after-commit-window : tie.After-commit-window = search needs in (
+      canonical-committed (entry .args .r) (entry .pre .0 .0) (entry .args .caller) (entry .args .event) (entry .args .opens) (entry .args .closes)
+          (entry .pre .0 .1) (after-commit-window .commit-window .ensures .0),
       past-part 2400 1824 (entry .args .scratch .now) (after-commit-window .commit-window .last .0) (omega arith)
           (after-commit-window .commit-window .ensures .1 ∙ length-take-le 1824 (entry .args .scratch .now) (omega (arith, entry .pre .1))),
     )
@@ -61,11 +48,9 @@ commit-event-spec =
     slice-relend-prefix-commit-window
     slice-aggregate-commit-window
     commit-window-requires
-    (λ c. let entry : tie.Start = search needs in omega (arith, canonical-few (entry .args .r) (entry .pre .0 .0)))
-    few-events
-    (λ c. omega (arith, owner-known (c .before) .0))
-    (λ c. owner-known (c .before) .0)
-    (λ c. record { fits = omega (arith, owner-known (c .before) .1) })
-    (λ c. owner-known (c .before) .0)
+    (λ c. let entry : tie.Start = search needs in omega (arith, known entry .0))
+    (λ c. let entry : tie.Start = search needs in known entry .0)
+    (λ c. let entry : tie.Start = search needs in record { fits = omega (arith, known entry .1) })
+    (λ c. let entry : tie.Start = search needs in known entry .0)
     same-length
     returns)

@@ -18,7 +18,7 @@ returns : tie.Need-returns
 returns c =
     let entry : tie.Start = search needs in
     meets-refused (entry .args .out .now) (commit-refused (stateOf (entry .args .r))
-    (asking (entry .args .event) (entry .args .opens) (entry .args .closes)) (c .before .before .cause .ensures) (c .before .if1 .taken))
+    (asking (entry .args .caller) (entry .args .event) (entry .args .opens) (entry .args .closes)) (c .before .before .cause .ensures) (c .before .if1 .taken))
     (c .refusal .ensures) refl
 
 commit-event-requires : tie.Need-commit-event-requires

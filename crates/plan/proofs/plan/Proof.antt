@@ -4,6 +4,7 @@ use Rattle.temporal.specs.Plan.{plan}
 use Rattle.ticket.specs.Parser.{wholly}
 use Rattle.ticket.specs.Format.{readTicket}
 use Rattle.runs.specs.Calls.{planning-read, planning-short}
+use Rattle.runs.specs.Scratch.{read-clears}
 use Rattle.causes.specs.Room.{short-room, long-room, long-enough}
 use Rattle.plan.specs.Meets.{whole-short, whole-read}
 use borrow.Author.Needs.{needs}
@@ -38,9 +39,10 @@ returns-2 c =
     let after-short : tie.After-short = search needs in
     let entry : tie.Start = search needs in
     let s = entry .args in
-    whole-read (s .out .now) (s .scratch .now) plan (wholly readTicket (s .ticket .now))
+    whole-read (s .scratch .now)
     (planning-read (s .ticket .now) (s .out .now) (s .scratch .now)
     (long-room (s .out .now) (s .scratch .now) (after-short .short .ensures) (roomy .if1 .left)))
+    (read-clears (s .out .now) (s .scratch .now) plan (wholly readTicket (s .ticket .now)))
     (after-plan-bytes .plan-bytes .ensures) (c .before .before .clear .ensures)
 
 pub plan-spec : {M : Type 1} → statement M
