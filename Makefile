@@ -2,7 +2,9 @@
 # make plan      the plan of $(TICKET), a ticket as text
 # make latest    its latest plan
 # make commit    its plan, and the windows and the devices' counts after each commitment in $(BY), with the names of
-#                its events; BY="shutter 6..10, shutter 10..10" commits an event and then narrows its window again
+#                its events; BY="shutter 6..10, shutter 10..10" commits an event and then narrows its window again. Each is
+#                asked for by the event's owner; in BY="shutter 6..10 as lamps" the lamps ask, and are refused
+# make view      what each device sees of its plan, and after each commitment in $(BY)
 # make table     its table of distances, with the names of its events; with STOPS=1 the table before the first
 #                stop and after each, from the last event back to the first and then the start
 # make reason    why no times keep its rules, with the names of its events and of the devices in $(ROSTER)
@@ -43,6 +45,11 @@ commit: library
 	tools/ticket encode $(TICKET) target/ticket
 	by=$$(tools/ticket by $(TICKET) "$$BY") && target/commit $$by <target/ticket | tools/ticket commits $(TICKET)
 
+view: library
+	$(CC) -std=c99 -O2 -Iinclude examples/view.c $(ARCHIVE) -o target/view
+	tools/ticket encode $(TICKET) target/ticket
+	by=$$(tools/ticket by $(TICKET) "$$BY") && target/view $$by <target/ticket | tools/ticket views $(TICKET)
+
 table: library
 	$(CC) -std=c99 -O2 -Iinclude examples/table.c $(ARCHIVE) -o target/table
 	tools/ticket encode $(TICKET) target/ticket
@@ -71,4 +78,4 @@ install: library
 	install -m 644 $(ARCHIVE) $(DESTDIR)$(PREFIX)/lib
 	sed 's,@PREFIX@,$(PREFIX),' beyunlak.pc.in >$(DESTDIR)$(PREFIX)/lib/pkgconfig/beyunlak.pc
 
-.PHONY: all library program plan latest commit table reason mend part install
+.PHONY: all library program plan latest commit view table reason mend part install

@@ -1,5 +1,8 @@
 /* A plan and commitments on it: reads the ticket's bytes from standard input, plans it, and makes the commitments that
- * the words say, one after the other. Three words are a commitment: event, open and close.
+ * the words say, one after the other. Four words are a commitment: the caller, which is the number of the device that
+ * asks (0 camera, 1 filter wheel, 2 lamps, 3 stage, 4 database), event, open and close. A device commits its own events:
+ * of the ticket in examples/tickets/p1.ticket "0 1 6 10" is accepted, "2 1 6 10" is refused with 20, since event 1 is
+ * the camera's and not the lamps', and "5 1 6 10" with 19, since 5 is no device.
  *
  * It prints the plan's record, then for each commitment a line "commit" with its numbers, and the record that it gives
  * or "refused" and the number. After a refusal the record stays, and the next commitment goes on from it. A record is
@@ -8,7 +11,7 @@
  * no plan prints "refused" and the number.
  *
  *     cc -std=c99 -Iinclude examples/commit.c target/staticlib/libbeyunlak.a -o commit
- *     ./commit [EVENT OPEN CLOSE].. <TICKET
+ *     ./commit [CALLER EVENT OPEN CLOSE].. <TICKET
  */
 #include <stdio.h>
 
@@ -64,13 +67,13 @@ int main(int count, char **words)
     static uint8_t ticket[BEYUNLAK_TICKET_MAX + 1];
     static uint8_t records[2][BEYUNLAK_RECORD_MAX];
     uint8_t *record = records[0], *next = records[1];
-    uint32_t event, open, close;
+    uint32_t caller, event, open, close;
 
-    int good = count % 3 == 1;
+    int good = count % 4 == 1;
     for (int i = 1; i < count; i++)
         good = good && number(words[i], &event);
     if (!good) {
-        fprintf(stderr, "usage: commit [EVENT OPEN CLOSE].. <TICKET\n");
+        fprintf(stderr, "usage: commit [CALLER EVENT OPEN CLOSE].. <TICKET\n");
         return 2;
     }
 
@@ -81,12 +84,13 @@ int main(int count, char **words)
     uint32_t n = get(ticket + 4, 2), m = get(ticket + 6 + n, 2);
     print(record, n, m);
 
-    for (int i = 1; i < count; i += 3) {
-        number(words[i], &event);
-        number(words[i + 1], &open);
-        number(words[i + 2], &close);
-        printf("commit %u %u %u\n", (unsigned)event, (unsigned)open, (unsigned)close);
-        answer = beyunlak_commit(record, BEYUNLAK_RECORD_LENGTH(n, m), event, open, close, next,
+    for (int i = 1; i < count; i += 4) {
+        number(words[i], &caller);
+        number(words[i + 1], &event);
+        number(words[i + 2], &open);
+        number(words[i + 3], &close);
+        printf("commit %u %u %u %u\n", (unsigned)caller, (unsigned)event, (unsigned)open, (unsigned)close);
+        answer = beyunlak_commit(record, BEYUNLAK_RECORD_LENGTH(n, m), caller, event, open, close, next,
                                  BEYUNLAK_RECORD_MAX);
         if (answer != BEYUNLAK_ACCEPTED) {
             refused(answer);

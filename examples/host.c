@@ -1,6 +1,6 @@
-/* A small host: makes a ticket of two events, plans it, lets event 1 commit to 6..10 and then to tick 10, prints
- * the windows and each device's count of accepted commitments each time, shows a commitment that is refused, lets
- * event 2 commit, and prints the latest plan of the same ticket.
+/* A small host: makes a ticket of two events, plans it, lets the camera commit event 1 to 6..10 and then to tick 10,
+ * prints the windows and each device's count of accepted commitments each time, shows two commitments that are
+ * refused, lets the lamps commit event 2, and prints the latest plan of the same ticket.
  *
  *     cc -std=c99 -Iinclude examples/host.c target/staticlib/libbeyunlak.a -o host && ./host
  */
@@ -92,13 +92,14 @@ static const char *reason(uint32_t answer)
     case BEYUNLAK_TRAILING: return "bytes after the end";
     case BEYUNLAK_IMPOSSIBLE: return "no schedule exists";
     case BEYUNLAK_SHORT: return "output too short";
-    case BEYUNLAK_EVENT: return "no such event";
     case BEYUNLAK_WINDOW: return "not inside the event's window";
     case BEYUNLAK_LAYOUT: return "record breaks the layout";
     case BEYUNLAK_UNFIT: return "record's windows are not fit";
     case BEYUNLAK_NAMES: return "list of names breaks the layout";
     case BEYUNLAK_POSSIBLE: return "a schedule exists";
     case BEYUNLAK_COUNT: return "owner's count cannot rise";
+    case BEYUNLAK_CALLER: return "caller is no device";
+    case BEYUNLAK_NOT_OWN: return "not an event of the caller";
     default: return "unknown answer";
     }
 }
@@ -123,13 +124,13 @@ int main(void)
     print("plan", record);
 
     if (refused("event 1 at 6..10",
-                beyunlak_commit(record, length(record), 1, 6, 10, next, sizeof next)))
+                beyunlak_commit(record, length(record), BEYUNLAK_CAMERA, 1, 6, 10, next, sizeof next)))
         return 1;
     print("after event 1 commits 6..10", next);
 
     /* A committed event narrows its window again. The two buffers change places. */
     if (refused("event 1 at 10..10",
-                beyunlak_commit(next, length(next), 1, 10, 10, record, sizeof record)))
+                beyunlak_commit(next, length(next), BEYUNLAK_CAMERA, 1, 10, 10, record, sizeof record)))
         return 1;
     print("after event 1 commits 10..10", record);
 
@@ -137,12 +138,17 @@ int main(void)
      * the record in `record` is still the one to go on with. */
     size_t record_len = length(record);
     memcpy(next, record, record_len);
-    refused("event 1 at 9..9", beyunlak_commit(record, record_len, 1, 9, 9, next, sizeof next));
+    refused("event 1 at 9..9", beyunlak_commit(record, record_len, BEYUNLAK_CAMERA, 1, 9, 9, next, sizeof next));
+
+    /* Event 1 is the camera's: the lamps may not commit it. */
+    refused("event 1 at 10..10 by the lamps",
+            beyunlak_commit(record, record_len, BEYUNLAK_LAMPS, 1, 10, 10, next, sizeof next));
     if (memcmp(next, record, record_len) != 0)
         return 1;
 
     /* The lamps' count rises, the camera's stays. */
-    if (refused("event 2 at 10..12", beyunlak_commit(record, record_len, 2, 10, 12, next, sizeof next)))
+    if (refused("event 2 at 10..12",
+                beyunlak_commit(record, record_len, BEYUNLAK_LAMPS, 2, 10, 12, next, sizeof next)))
         return 1;
     print("after event 2 commits 10..12", next);
 

@@ -5,10 +5,11 @@
  * points. beyunlak_plan gives every event a window, so that each device may pick any tick of its own window
  * without asking the others and no rule is broken; beyunlak_plan_latest does so as late as can be.
  * beyunlak_commit commits an event to a window inside its own, later to a narrower one, and widens the windows
- * of the free events as far as that allows. beyunlak_table tells how far apart in time any two points can be,
- * and beyunlak_table_after what stands in its table on the way there, stop by stop. beyunlak_reason tells in
- * words why no times keep all rules. beyunlak_mend drops from such a ticket each rule that cannot be kept with
- * those kept before it. beyunlak_part plans the events of one device alone.
+ * of the free events as far as that allows; a device commits its own events only. beyunlak_view shows a device
+ * the windows of its own events, and the database those of all. beyunlak_table tells how far apart in time any
+ * two points can be, and beyunlak_table_after what stands in its table on the way there, stop by stop.
+ * beyunlak_reason tells in words why no times keep all rules. beyunlak_mend drops from such a ticket each rule
+ * that cannot be kept with those kept before it. beyunlak_part plans the events of one device alone.
  *
  * Link with libbeyunlak.a. It needs no other library, keeps nothing between two calls, allocates nothing
  * and makes no system call.
@@ -32,7 +33,8 @@
  *   rule from 2 to 1 with bound -5. A pair of points may have several rules.
  *   A ticket has 8 + n + 6m bytes, and nothing follows it.
  *
- * A RECORD, the output of both plans, and both input and output of beyunlak_commit. T stands for 8 + n + 6m.
+ * A RECORD, the output of both plans, both input and output of beyunlak_commit, and the input of beyunlak_view.
+ *   T stands for 8 + n + 6m.
  *     offset       bytes  field
  *     0            T      the ticket
  *     T            2      n again
@@ -139,9 +141,38 @@
  *   the total 18. Its camera's part has event 1 with 5..15, its lamps' part event 2 with 8..19, the other three
  *   are empty, and the totals are 30, 0, 11, 0 and 0.
  *
+ * A VIEW, the output of beyunlak_view: the events that the caller sees, as they are in a record.
+ *     offset    bytes  field
+ *     0         2      e, the number of events that are shown, 0 to n
+ *     2 + 10k   10     for k from 0 to e - 1, the events rising:
+ *                        1 byte   the event's number, 1 to n
+ *                        1 byte   1 if the event is committed, 0 if it is free
+ *                        4 bytes  open, as in a record
+ *                        4 bytes  close, as in a record
+ *   A view has 2 + 10e bytes. Its length is not returned, since e stands in it.
+ *   In the plan of the ticket of examples/host.c the camera sees event 1, free, with 5..11, the lamps event 2,
+ *   free, with 9..9, the database both, and the other two see none.
+ *
+ * WHO SEES AND WHO COMMITS
+ *   beyunlak_view and beyunlak_commit take the device that asks, `caller`, one of enum beyunlak_owner. A device
+ *   sees the numbers, windows and flags of its own events, and the database those of all events. A device
+ *   commits its own events and no others; the database too.
+ *   For a device other than the database, its view and the number that answers its commitment depend on nothing
+ *   in the record but the numbers, windows and flags of its own events and its own count. Two records that are
+ *   equal in these give it equal views and equal numbers, whatever their horizons, rules and other events are,
+ *   if both can be read, their windows are fit and the outputs are long enough. Whether an output is written
+ *   follows from that number.
+ *   This does not cover:
+ *   - the record that an accepted commitment writes. It has the windows of all events: a host that wants to keep
+ *     them from a device's maker hands out views, not records; nor tickets, since whoever has one can plan it;
+ *   - the windows themselves. They follow from all rules, and a free one may be wider after a commitment of
+ *     another device;
+ *   - how long a call takes.
+ *   The library cannot know who calls it: the host vouches for `caller`.
+ *
  * WHAT IS LEFT IN THE OUTPUT
- *   Answer 0: the record, the table, the text, the mended ticket or the part stands at the start of `out`, and
- *   the list of dropped rules at the start of `dropped`; what lies after each is as it was.
+ *   Answer 0: the record, the view, the table, the text, the mended ticket or the part stands at the start of
+ *   `out`, and the list of dropped rules at the start of `dropped`; what lies after each is as it was.
  *   Any other answer: all of `out` and all of `dropped` is as it was. beyunlak_reason then writes 0 to *length.
  *
  * WHAT A CALLER OWES
@@ -152,8 +183,8 @@
  *   Calls in several threads need no lock where each has memory of its own. Every function ends after a
  *   bounded number of steps, whatever it is given. Of stack both plans use less than 30 kilobytes and
  *   beyunlak_commit less than 22, in each 7,296 bytes of them for the scratch that the caller does not lend;
- *   beyunlak_part uses less than 100, and every other function less than 35 (measured; it depends on how the
- *   library was compiled).
+ *   beyunlak_part uses less than 100, and every other function, beyunlak_view among them, less than 35
+ *   (measured; it depends on how the library was compiled).
  *   Bytes from a stranger are safe: they are refused or accepted, and never read or written past their length.
  *
  * EXAMPLE (examples/host.c is a whole program)
@@ -165,7 +196,8 @@
  *     if (answer != BEYUNLAK_ACCEPTED)
  *         return give_up(answer);
  *
- *     answer = beyunlak_commit(plan, BEYUNLAK_RECORD_LENGTH(2, 6), 1, 10, 10, next, sizeof next);
+ *     answer = beyunlak_commit(plan, BEYUNLAK_RECORD_LENGTH(2, 6), BEYUNLAK_CAMERA, 1, 10, 10,
+ *                              next, sizeof next);
  *     if (answer == BEYUNLAK_ACCEPTED)
  *         use(next);                       // hand `next` in and take `plan` as output the next time
  */
@@ -223,6 +255,11 @@ extern "C" {
 #define BEYUNLAK_PART_LENGTH(e) (2 + 9 * (size_t)(e))
 #define BEYUNLAK_PART_MAX 362
 
+/* Views: how many bytes a view of e events has, and the longest view. The output of a view holds at least as
+ * many as that, also for fewer events: under that the answer is BEYUNLAK_SHORT. */
+#define BEYUNLAK_VIEW_LENGTH(e) (2 + 10 * (size_t)(e))
+#define BEYUNLAK_VIEW_MAX 402
+
 /* The devices that own events, how many they are, and what a tick of width counts in the total for each. */
 #define BEYUNLAK_DEVICES 5
 enum beyunlak_owner {
@@ -242,11 +279,12 @@ struct beyunlak_rule {
     int32_t bound;
 };
 
-/* The answers. An output's length is tested first. Then the input is read field by field in the order of its
- * bytes, each field's presence before its value, and the first cause decides. Each rule is a field, each window
- * with its flag, and each count: one that is too low is 14, though the next is cut off. Then come 9 for a plan,
- * and 15, 11, 13, 18 in this order for a commitment. The orders of both tables, of a reason, of mending and of
- * a part stand at beyunlak_table, beyunlak_table_after, beyunlak_reason, beyunlak_mend and beyunlak_part. */
+/* The answers. An output's length is tested first, then the caller of a commitment or a view (19). Then the
+ * input is read field by field in the order of its bytes, each field's presence before its value, and the first
+ * cause decides. Each rule is a field, each window with its flag, and each count: one that is too low is 14,
+ * though the next is cut off. Then come 9 for a plan, 15 for a view, and 15, 20, 13, 18 in this order for a
+ * commitment. The orders of both tables, of a reason, of mending and of a part stand at beyunlak_table,
+ * beyunlak_table_after, beyunlak_reason, beyunlak_mend and beyunlak_part. */
 enum beyunlak_answer {
     BEYUNLAK_ACCEPTED = 0,
     BEYUNLAK_CUT = 1,        /* the bytes end inside a field */
@@ -258,9 +296,9 @@ enum beyunlak_answer {
     BEYUNLAK_BOUND = 7,      /* a bound is below -1,000,000 or above 1,000,000 */
     BEYUNLAK_TRAILING = 8,   /* bytes follow the end of the ticket or record */
     BEYUNLAK_IMPOSSIBLE = 9, /* no times keep all rules (planning, both tables and a part) */
-    BEYUNLAK_SHORT = 10,     /* an output is shorter than BEYUNLAK_RECORD_MAX, _TABLE_MAX, _REASON_MAX, _PART_MAX
-                                or, for mending, _TICKET_MAX or _DROPPED_MAX */
-    BEYUNLAK_EVENT = 11,     /* a commitment to event 0 or to one above n */
+    BEYUNLAK_SHORT = 10,     /* an output is shorter than BEYUNLAK_RECORD_MAX, _VIEW_MAX, _TABLE_MAX,
+                                _REASON_MAX, _PART_MAX or, for mending, _TICKET_MAX or _DROPPED_MAX */
+    BEYUNLAK_EVENT = 11,     /* no longer answered: a commitment to no event is 20 */
     BEYUNLAK_COMMITTED = 12, /* no longer answered: a committed event may be committed again */
     BEYUNLAK_WINDOW = 13,    /* open is above close, or they are not inside the event's window */
     BEYUNLAK_LAYOUT = 14,    /* the record's second n, a flag, a window or the number of devices is wrong, or a
@@ -268,7 +306,9 @@ enum beyunlak_answer {
     BEYUNLAK_UNFIT = 15,     /* the record's windows allow a choice that breaks a rule */
     BEYUNLAK_NAMES = 16,     /* a list of names breaks its layout */
     BEYUNLAK_POSSIBLE = 17,  /* a schedule exists: some times keep all rules, so there is no reason */
-    BEYUNLAK_COUNT = 18      /* the count of the event's owner is 65,535 and cannot rise */
+    BEYUNLAK_COUNT = 18,     /* the count of the event's owner is 65,535 and cannot rise */
+    BEYUNLAK_CALLER = 19,    /* the caller is no device: above 4 */
+    BEYUNLAK_NOT_OWN = 20    /* a commitment to an event that is not the caller's, or to none: 0 or above n */
 };
 
 /*
@@ -286,16 +326,27 @@ uint32_t beyunlak_plan(const uint8_t *ticket, size_t ticket_len, uint8_t *out, s
 uint32_t beyunlak_plan_latest(const uint8_t *ticket, size_t ticket_len, uint8_t *out, size_t out_len);
 
 /*
- * The record after `event` is committed to the window `open` to `close`, which lies inside its present one.
- * A committed event may be committed again to any window inside its present one, the same included; the last
- * one counts. The other committed events keep their windows and every free window contains its former one; of
- * all such sets the widest is taken, then the earliest, as in a plan. The count of the event's owner rises by
- * one. The record may come from a plan, from a commitment, or from elsewhere, if its windows are fit. After a
- * refusal go on with the record that was handed in. examples/commit.c is a whole program.
- * Answers 0 to 8, 10, 11, 13 to 15 and 18.
+ * The record after `caller` commits its own event `event` to the window `open` to `close`, which lies inside its
+ * present one. A committed event may be committed again to any window inside its present one, the same included;
+ * the last one counts. The other committed events keep their windows and every free window contains its former
+ * one; of all such sets the widest is taken, then the earliest, as in a plan. The count of the event's owner,
+ * who is the caller, rises by one. The record may come from a plan, from a commitment, or from elsewhere, if its
+ * windows are fit. After a refusal go on with the record that was handed in. examples/commit.c is a whole
+ * program.
+ * Answers 0, or the first of these that applies: 10 (`out` is shorter than BEYUNLAK_RECORD_MAX), 19 (`caller` is
+ * above 4), 1 to 8 and 14 (the record), 15, 20, 13, 18.
  */
-uint32_t beyunlak_commit(const uint8_t *record, size_t record_len, uint32_t event, uint32_t open,
-                         uint32_t close, uint8_t *out, size_t out_len);
+uint32_t beyunlak_commit(const uint8_t *record, size_t record_len, uint32_t caller, uint32_t event,
+                         uint32_t open, uint32_t close, uint8_t *out, size_t out_len);
+
+/*
+ * The view of `caller` in a record: at the start of `out` the caller's own events with their flags and windows,
+ * and for the database all events. Where there are none to show the view has two bytes, both 0.
+ * examples/view.c is a whole program.
+ * Answers 0, or the first of these that applies: 10 (`out` is shorter than BEYUNLAK_VIEW_MAX), 19 (`caller` is
+ * above 4), 1 to 8 and 14 (the record, as in beyunlak_commit), 15.
+ */
+uint32_t beyunlak_view(const uint8_t *record, size_t record_len, uint32_t caller, uint8_t *out, size_t out_len);
 
 /*
  * The table of a session with this horizon, this number of events and these rules, which may stand in any
