@@ -14,8 +14,8 @@
 
 #ifdef HAVE_LIBRARY
 extern "C" uint32_t beyunlak_plan(const uint8_t *ticket, size_t ticket_len, uint8_t *out, size_t out_len);
-extern "C" uint32_t beyunlak_commit(const uint8_t *record, size_t record_len, uint32_t event, uint32_t open,
-                                    uint32_t close, uint8_t *out, size_t out_len);
+extern "C" uint32_t beyunlak_commit(const uint8_t *record, size_t record_len, uint32_t caller, uint32_t event,
+                                    uint32_t open, uint32_t close, uint8_t *out, size_t out_len);
 #endif
 
 namespace {
@@ -49,8 +49,9 @@ Windows solve_by_library(const Call &call, bool commit) {
     std::vector<uint8_t> out(record_limit);
     const Commitment &c = call.commitment;
     const uint32_t number =
-        commit ? beyunlak_commit(call.bytes.data(), call.bytes.size(), c.event, static_cast<uint32_t>(c.open),
-                                 static_cast<uint32_t>(c.close), out.data(), out.size())
+        commit ? beyunlak_commit(call.bytes.data(), call.bytes.size(),
+                                 static_cast<uint32_t>(call.ticket.owners[static_cast<size_t>(c.event) - 1]), c.event,
+                                 static_cast<uint32_t>(c.open), static_cast<uint32_t>(c.close), out.data(), out.size())
                : beyunlak_plan(call.bytes.data(), call.bytes.size(), out.data(), out.size());
     return number == 0 ? record_windows(call.ticket, out) : Windows{};
 }

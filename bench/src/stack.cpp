@@ -1,7 +1,7 @@
 // The most bytes of stack that each function of the library uses, and both plans and the commitment with lent scratch: over
 // example tickets, tickets of the structures that are measured, full ones among them, the same made impossible, drawn ones,
 // two at which a lift is given up, and all of these damaged; commitments over runs on the records of both plans, with refused
-// ones in between.
+// ones in between, and views of the records.
 // Each call runs on a stack of its own that is filled with a pattern, and the lowest byte that is no longer of the pattern
 // tells how deep it went. What a call of a function that does nothing leaves there is taken off.
 #include <sys/mman.h>
@@ -23,8 +23,8 @@
 extern "C" {
 uint32_t harness_plan(const uint8_t *, size_t, uint8_t *, size_t, uint32_t *, size_t, uint32_t *, uint32_t *);
 uint32_t harness_plan_latest(const uint8_t *, size_t, uint8_t *, size_t, uint32_t *, size_t, uint32_t *, uint32_t *);
-uint32_t harness_commit(const uint8_t *, size_t, uint32_t, uint32_t, uint32_t, uint8_t *, size_t, uint32_t *, size_t, uint32_t *,
-                        uint32_t *);
+uint32_t harness_commit(const uint8_t *, size_t, uint32_t, uint32_t, uint32_t, uint32_t, uint8_t *, size_t, uint32_t *, size_t,
+                        uint32_t *, uint32_t *);
 }
 
 namespace {
@@ -82,7 +82,7 @@ struct Function {
 };
 
 Function nothing = {"a function that does nothing"};
-Function plan = {"beyunlak_plan"}, plan_latest = {"beyunlak_plan_latest"}, commit = {"beyunlak_commit"};
+Function plan = {"beyunlak_plan"}, plan_latest = {"beyunlak_plan_latest"}, commit = {"beyunlak_commit"}, view = {"beyunlak_view"};
 Function plan_lent = {"planning, scratch lent"}, plan_latest_lent = {"the latest plan, scratch lent"}, commit_lent = {"commitment, scratch lent"};
 Function table = {"beyunlak_table"}, table_after = {"beyunlak_table_after"}, reason = {"beyunlak_reason"}, mend = {"beyunlak_mend"},
          part = {"beyunlak_part"};
@@ -112,15 +112,18 @@ Bytes planned(bool latest, const Bytes &ticket, size_t out_len = BEYUNLAK_RECORD
     return out;
 }
 
-// The record after a commitment, or as it is where that is refused.
+// The record after a commitment by the event's owner, by the camera where there is no such event, or as it is where that is
+// refused.
 Bytes committed(const Bytes &record, uint32_t event, int64_t open, int64_t close, size_t out_len = BEYUNLAK_RECORD_MAX) {
+    const bool there = record.size() > 4 && event > 0 && event <= record[4] && record.size() > 5 + event;
+    const uint32_t asking = there ? record[5 + event] : static_cast<uint32_t>(BEYUNLAK_CAMERA);
     const uint32_t first = static_cast<uint32_t>(open), last = static_cast<uint32_t>(close);
     Bytes out(out_len), out_lent(out_len);
     const uint32_t one =
-        commit.call([&] { return beyunlak_commit(record.data(), record.size(), event, first, last, out.data(), out.size()); });
+        commit.call([&] { return beyunlak_commit(record.data(), record.size(), asking, event, first, last, out.data(), out.size()); });
     const uint32_t other = commit_lent.call([&] {
-        return harness_commit(record.data(), record.size(), event, first, last, out_lent.data(), out_lent.size(), scratch, scratch_numbers,
-                              &length, &total);
+        return harness_commit(record.data(), record.size(), asking, event, first, last, out_lent.data(), out_lent.size(), scratch,
+                              scratch_numbers, &length, &total);
     });
     same(commit, one, other, out, out_lent);
     if (one != BEYUNLAK_ACCEPTED) return record;
@@ -257,16 +260,30 @@ void ask_table(const Ticket &ticket) {
     ask(horizon, events, numbers.size());
 }
 
+// The views of a record by every device, and by none.
+void ask_views(const Bytes &record) {
+    Bytes out(BEYUNLAK_VIEW_MAX);
+    for (uint32_t caller = 0; caller <= BEYUNLAK_DEVICES; caller++) {
+        for (size_t missing : {0, 1}) view.call([&] { return beyunlak_view(record.data(), record.size(), caller, out.data(), out.size() - missing); });
+    }
+}
+
 // Every event in turn commits to the middle third of its window, and once all have, again; before each the commitments that are
-// refused with 11 and 13. On the first record also those of damaged records, of windows that are not fit, and at full counts.
+// refused with 20 and 13. On the first record also those of damaged records, of windows that are not fit, and at full counts;
+// and the views of all these but the last.
 void ask_commitments(const Ticket &ticket, Bytes record) {
     const Window anywhere = {0, ticket.horizon};
     const Windows wide(ticket.owners.size(), anywhere);
     const Bytes unfit = record_bytes(ticket, wide, std::vector<bool>(ticket.owners.size(), false));
     Bytes full = record;
     std::fill(full.end() - 10, full.end(), 0xff);
-    for (const Bytes &bytes : damaged(record)) committed(bytes, 1, 0, 0);
+    for (const Bytes &bytes : damaged(record)) {
+        committed(bytes, 1, 0, 0);
+        ask_views(bytes);
+    }
     committed(unfit, 1, 0, ticket.horizon);
+    ask_views(unfit);
+    ask_views(record);
     committed(record, 1, 0, 0, BEYUNLAK_RECORD_MAX - 1);
     for (int round = 0; round < 2; round++) {
         for (int event = 1; event <= ticket.events(); event++) {
@@ -316,7 +333,7 @@ int main(int count, char **words) {
     }
     std::printf("\nThe most bytes of stack, over %zu tickets; %s leaves %zu, which are taken off.\n\n", tickets.size(), nothing.name, nothing.most);
     std::printf("| function                      |   calls |  bytes | answers |\n|---|---|---|---|\n");
-    for (const Function *function : {&plan, &plan_latest, &commit, &plan_lent, &plan_latest_lent, &commit_lent, &table, &table_after, &reason, &mend, &part}) {
+    for (const Function *function : {&plan, &plan_latest, &commit, &view, &plan_lent, &plan_latest_lent, &commit_lent, &table, &table_after, &reason, &mend, &part}) {
         print(*function);
     }
     return 0;

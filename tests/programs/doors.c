@@ -1,6 +1,6 @@
 /* The header against the library: every answer under its name, the lengths, what is left in the outputs, the
  * examples of latest plans and commitments, narrowing again, the counts of the devices, both tables, reasons,
- * mending, and parts.
+ * mending, parts, who commits, and views.
  * Prints a line a check, "ok NAME" or "FAILED NAME". Called with a word it leaves out what takes long. */
 #include <stdio.h>
 #include <stdlib.h>
@@ -110,10 +110,22 @@ static uint32_t plan(size_t out_len)
     return planning(in, in_len, out, out_len);
 }
 
-static uint32_t commit(uint32_t event, uint32_t open, uint32_t close, size_t out_len)
+static uint32_t commit_as(uint32_t caller, uint32_t event, uint32_t open, uint32_t close, size_t out_len)
 {
     fill();
-    return beyunlak_commit(in, in_len, event, open, close, out, out_len);
+    return beyunlak_commit(in, in_len, caller, event, open, close, out, out_len);
+}
+
+/* The owner of an event of the input, who commits it; the camera where there is no such event. */
+static uint32_t owner_of(uint32_t event)
+{
+    const int there = event > 0 && event <= in[4] && in[5 + event] < BEYUNLAK_DEVICES;
+    return there ? in[5 + event] : BEYUNLAK_CAMERA;
+}
+
+static uint32_t commit(uint32_t event, uint32_t open, uint32_t close, size_t out_len)
+{
+    return commit_as(owner_of(event), event, open, close, out_len);
 }
 
 static int untouched_from(size_t at)
@@ -131,7 +143,7 @@ static void refuses(const char *name, uint32_t answer, uint32_t wanted)
     check(name, answer == wanted && untouched_from(0) && dropped_untouched_from(0));
 }
 
-/* The input is the record, the mended ticket or the part that is wanted. */
+/* The input is the record, the mended ticket, the part or the view that is wanted. */
 static void gives(const char *name, uint32_t answer)
 {
     check(name, answer == BEYUNLAK_ACCEPTED && memcmp(out, in, in_len) == 0 && untouched_from(in_len));
@@ -189,8 +201,10 @@ static void records(void)
 {
     trains_record(0, 5, 10, 8, 9, 0);
     refuses("10 commit", commit(1, 10, 10, BEYUNLAK_RECORD_MAX - 1), BEYUNLAK_SHORT);
-    refuses("11 event 0", commit(0, 10, 10, BEYUNLAK_RECORD_MAX), BEYUNLAK_EVENT);
-    refuses("11 event n + 1", commit(3, 10, 10, BEYUNLAK_RECORD_MAX), BEYUNLAK_EVENT);
+    refuses("20 event 0", commit(0, 10, 10, BEYUNLAK_RECORD_MAX), BEYUNLAK_NOT_OWN);
+    refuses("20 event n + 1", commit(3, 10, 10, BEYUNLAK_RECORD_MAX), BEYUNLAK_NOT_OWN);
+    refuses("20 another device", commit_as(BEYUNLAK_LAMPS, 1, 10, 10, BEYUNLAK_RECORD_MAX), BEYUNLAK_NOT_OWN);
+    refuses("19", commit_as(BEYUNLAK_DEVICES, 1, 10, 10, BEYUNLAK_RECORD_MAX), BEYUNLAK_CALLER);
     refuses("13 open above close", commit(1, 9, 8, BEYUNLAK_RECORD_MAX), BEYUNLAK_WINDOW);
     refuses("13 outside", commit(2, 8, 10, BEYUNLAK_RECORD_MAX), BEYUNLAK_WINDOW);
     trains_record(1, 5, 10, 8, 9, 0);
@@ -463,8 +477,12 @@ static void count_ends(void)
     refuses("18 the same window", commit(1, 6, 10, BEYUNLAK_RECORD_MAX), BEYUNLAK_COUNT);
     refuses("13 before 18, outside", commit(1, 5, 10, BEYUNLAK_RECORD_MAX), BEYUNLAK_WINDOW);
     refuses("13 before 18, open above close", commit(1, 9, 8, BEYUNLAK_RECORD_MAX), BEYUNLAK_WINDOW);
-    refuses("11 before 18, event 0", commit(0, 8, 8, BEYUNLAK_RECORD_MAX), BEYUNLAK_EVENT);
-    refuses("11 before 18, event n + 1", commit(3, 8, 8, BEYUNLAK_RECORD_MAX), BEYUNLAK_EVENT);
+    refuses("20 before 18, event 0", commit(0, 8, 8, BEYUNLAK_RECORD_MAX), BEYUNLAK_NOT_OWN);
+    refuses("20 before 18, event n + 1", commit(3, 8, 8, BEYUNLAK_RECORD_MAX), BEYUNLAK_NOT_OWN);
+    refuses("20 before 18, another device's event", commit_as(BEYUNLAK_CAMERA, 2, 8, 8, BEYUNLAK_RECORD_MAX),
+            BEYUNLAK_NOT_OWN);
+    refuses("20 before 18, by another device", commit_as(BEYUNLAK_LAMPS, 1, 10, 10, BEYUNLAK_RECORD_MAX),
+            BEYUNLAK_NOT_OWN);
     refuses("10 before 18", commit(1, 10, 10, BEYUNLAK_RECORD_MAX - 1), BEYUNLAK_SHORT);
     answer = commit(2, 8, 8, BEYUNLAK_RECORD_MAX);
     trains_flags(1, 6, 10, 1, 8, 8, BEYUNLAK_COUNT_MAX, 1);
@@ -533,7 +551,7 @@ static void count_run(void)
         const uint32_t answer = commit(event, 0, close, BEYUNLAK_RECORD_MAX);
         sprintf(text, "commitment %u of a run", (unsigned)k);
         if (event == 0 || event > ten) {
-            refuses(text, answer, BEYUNLAK_EVENT);
+            refuses(text, answer, BEYUNLAK_NOT_OWN);
         } else if (close == 10) {
             refuses(text, answer, BEYUNLAK_WINDOW);
         } else if (numbers[two_each[event - 1]] == BEYUNLAK_COUNT_MAX) {
@@ -656,7 +674,7 @@ static void count_whole(void)
     in_len = BEYUNLAK_RECORD_LENGTH(2, 6);
     while (answer == BEYUNLAK_ACCEPTED && accepted <= BEYUNLAK_COUNT_MAX) {
         memcpy(in, out, in_len);
-        answer = beyunlak_commit(in, in_len, 1, 5, 10, out, BEYUNLAK_RECORD_MAX);
+        answer = beyunlak_commit(in, in_len, BEYUNLAK_CAMERA, 1, 5, 10, out, BEYUNLAK_RECORD_MAX);
         accepted += answer == BEYUNLAK_ACCEPTED;
     }
     check("18 after 65,535 commitments", answer == BEYUNLAK_COUNT && accepted == BEYUNLAK_COUNT_MAX);
@@ -774,8 +792,9 @@ static void layout(void)
     check("offset of to", offsetof(struct beyunlak_rule, to) == 1);
     check("offset of bound", offsetof(struct beyunlak_rule, bound) == 4);
     check("size of a rule", sizeof(struct beyunlak_rule) == 8);
-    check("the number that is not answered", BEYUNLAK_COMMITTED == 12);
+    check("the numbers that are not answered", BEYUNLAK_EVENT == 11 && BEYUNLAK_COMMITTED == 12);
     check("the number of a count that cannot rise", BEYUNLAK_COUNT == 18);
+    check("the numbers of a caller", BEYUNLAK_CALLER == 19 && BEYUNLAK_NOT_OWN == 20);
 }
 
 static void table_answers(void)
@@ -1731,6 +1750,364 @@ static void part_exact(void)
     }
 }
 
+/* ---- who commits */
+
+/* Callers that are no device. */
+static const uint32_t no_device[] = {5, 6, 7, 255, 256, 258, 260, 65535, 65536, 0x01000000u, 0x80000000u, UINT32_MAX};
+#define NO_DEVICES (sizeof no_device / sizeof *no_device)
+
+/* Every device asks for every event of a record in which each owns two: its own are accepted, the database's by the
+ * database alone, and all others refused, as are numbers that no event has. */
+static void callers(void)
+{
+    static const uint32_t none[] = {0, 11, 12, 40, 41, 255, 256, 257, 65537, 0x80000001u, UINT32_MAX};
+    const uint32_t numbers[BEYUNLAK_DEVICES] = {3, 1, 4, 1, 5};
+    char text[80];
+    for (uint32_t caller = 0; caller < BEYUNLAK_DEVICES; caller++) {
+        for (uint32_t event = 1; event <= ten; event++) {
+            uint32_t after[BEYUNLAK_DEVICES];
+            memcpy(after, numbers, sizeof after);
+            after[caller]++;
+            devices(0, 0, 0, 0, numbers);
+            const uint32_t answer = commit_as(caller, event, 3, 4, BEYUNLAK_RECORD_MAX);
+            sprintf(text, "device %u commits event %u", (unsigned)caller, (unsigned)event);
+            if (two_each[event - 1] == caller) {
+                devices(1u << (event - 1), event, 3, 4, after);
+                gives(text, answer);
+            } else {
+                refuses(text, answer, BEYUNLAK_NOT_OWN);
+            }
+        }
+        devices(0, 0, 0, 0, numbers);
+        for (size_t k = 0; k < sizeof none / sizeof *none; k++) {
+            sprintf(text, "device %u commits event %u", (unsigned)caller, (unsigned)none[k]);
+            refuses(text, commit_as(caller, none[k], 3, 4, BEYUNLAK_RECORD_MAX), BEYUNLAK_NOT_OWN);
+        }
+    }
+    devices(0, 0, 0, 0, numbers);
+    for (size_t k = 0; k < NO_DEVICES; k++)
+        for (uint32_t event = 0; event <= ten + 1; event++) {
+            sprintf(text, "caller %u, event %u", (unsigned)no_device[k], (unsigned)event);
+            refuses(text, commit_as(no_device[k], event, 3, 4, BEYUNLAK_RECORD_MAX), BEYUNLAK_CALLER);
+        }
+}
+
+/* Records of P1 under their numbers: readable and fit; empty, a ticket, cut, a flag of 2, a count too low, a byte too
+ * long; not fit; and such whose tickets are refused with 2 to 7. */
+#define WRONG_RECORDS 14
+static const uint32_t record_answers[WRONG_RECORDS] = {0, 1, 1, 1, 14, 14, 8, 15, 2, 3, 4, 5, 6, 7};
+
+static void wrong_record(uint32_t number)
+{
+    trains_record(number == 5, 5, number == 7 ? 15 : 11, number == 7 ? 8 : 9, number == 7 ? 19 : 9, 0);
+    switch (number) {
+    case 1: in_len = 0; break;
+    case 2: in_len = BEYUNLAK_TICKET_LENGTH(2, 6); break;
+    case 3: in_len--; break;
+    case 4: in[BEYUNLAK_TICKET_LENGTH(2, 6) + 2] = 2; break;
+    case 6: put(0, 1); break;
+    case 8: in[2] = 0x10; break;
+    case 9: in[4] = 41; break;
+    case 10: in[7] = 5; break;
+    case 11: in[9] = 2; break;
+    case 12: in[10] = 1; break;
+    case 13: in[14] = 0x10; break;
+    }
+}
+
+/* The first cause decides: 10, 19, the record, 15, 20, 13. */
+static void caller_order(void)
+{
+    char text[80];
+    for (uint32_t number = 0; number < WRONG_RECORDS; number++) {
+        const uint32_t answer = record_answers[number];
+        wrong_record(number);
+        for (uint32_t caller = 0; caller <= BEYUNLAK_DEVICES; caller++)
+            for (uint32_t event = 0; event <= 3; event++) {
+                const int own = (event == 1 && caller == BEYUNLAK_CAMERA) || (event == 2 && caller == BEYUNLAK_LAMPS);
+                const uint32_t wanted = caller == BEYUNLAK_DEVICES ? BEYUNLAK_CALLER
+                                        : answer                   ? answer
+                                        : own                      ? BEYUNLAK_WINDOW
+                                                                   : BEYUNLAK_NOT_OWN;
+                sprintf(text, "record %u, caller %u, event %u", (unsigned)number, (unsigned)caller, (unsigned)event);
+                refuses(text, commit_as(caller, event, 20, 4, BEYUNLAK_RECORD_MAX), wanted);
+                refuses(text, commit_as(caller, event, 20, 4, BEYUNLAK_RECORD_MAX - 1), BEYUNLAK_SHORT);
+            }
+        for (size_t k = 0; k < NO_DEVICES; k++) {
+            sprintf(text, "record %u, caller %u", (unsigned)number, (unsigned)no_device[k]);
+            refuses(text, commit_as(no_device[k], 1, 10, 10, BEYUNLAK_RECORD_MAX), BEYUNLAK_CALLER);
+            refuses(text, commit_as(no_device[k], 1, 10, 10, BEYUNLAK_RECORD_MAX - 1), BEYUNLAK_SHORT);
+            refuses(text, commit_as(no_device[k], 1, 10, 10, 0), BEYUNLAK_SHORT);
+        }
+    }
+}
+
+/* ---- views */
+
+static uint32_t view(uint32_t caller, size_t out_len)
+{
+    fill();
+    return beyunlak_view(in, in_len, caller, out, out_len);
+}
+
+/* The view with these events, a number, a flag, an open and a close of each. */
+static void view_of(const uint32_t (*events)[4], uint32_t count)
+{
+    in_len = 0;
+    put(count, 2);
+    for (uint32_t k = 0; k < count; k++) {
+        put(events[k][0], 1);
+        window(events[k][1], events[k][2], events[k][3]);
+    }
+}
+
+/* This device sees these events of the record, in outputs of 402 bytes and more; the record stays the input. */
+static void sees(const char *name, uint32_t caller, const uint32_t (*events)[4], uint32_t count)
+{
+    static const size_t lengths[] = {BEYUNLAK_VIEW_MAX, BEYUNLAK_VIEW_MAX + 1, 500, sizeof out};
+    static uint8_t record[BEYUNLAK_RECORD_MAX];
+    const size_t record_len = in_len;
+    char text[80];
+    memcpy(record, in, record_len);
+    for (size_t k = 0; k < sizeof lengths / sizeof *lengths; k++) {
+        memcpy(in, record, in_len = record_len);
+        const uint32_t answer = view(caller, lengths[k]);
+        check("the record is as it was", memcmp(in, record, record_len) == 0);
+        view_of(events, count);
+        sprintf(text, "%s, device %u, %u bytes", name, (unsigned)caller, (unsigned)lengths[k]);
+        gives(text, answer);
+    }
+    check("length", in_len == BEYUNLAK_VIEW_LENGTH(count));
+    memcpy(in, record, in_len = record_len);
+}
+
+/* P1's plan, and the record after P2's commitment. */
+static void view_examples(void)
+{
+    static const uint32_t plan_both[][4] = {{1, 0, 5, 11}, {2, 0, 9, 9}};
+    static const uint32_t then_both[][4] = {{1, 1, 10, 10}, {2, 0, 8, 14}};
+    static const uint8_t camera[] = {1, 0, 1, 0, 5, 0, 0, 0, 11, 0, 0, 0};
+    uint32_t answer;
+    check("longest view", BEYUNLAK_VIEW_MAX == 402 && BEYUNLAK_VIEW_MAX == BEYUNLAK_VIEW_LENGTH(BEYUNLAK_EVENTS_MAX));
+    for (int then = 0; then < 2; then++) {
+        const uint32_t(*both)[4] = then ? then_both : plan_both;
+        const char *name = then ? "P2" : "P1";
+        trains();
+        answer = plan(BEYUNLAK_RECORD_MAX);
+        memcpy(in, out, in_len = BEYUNLAK_RECORD_LENGTH(2, 6));
+        if (then) {
+            answer = commit_as(BEYUNLAK_CAMERA, 1, 10, 10, BEYUNLAK_RECORD_MAX);
+            memcpy(in, out, in_len);
+        }
+        check(name, answer == BEYUNLAK_ACCEPTED);
+        sees(name, BEYUNLAK_CAMERA, both, 1);
+        sees(name, BEYUNLAK_LAMPS, both + 1, 1);
+        sees(name, BEYUNLAK_DATABASE, both, 2);
+        sees(name, BEYUNLAK_FILTER_WHEEL, NULL, 0);
+        sees(name, BEYUNLAK_STAGE, NULL, 0);
+    }
+    trains_record(0, 5, 11, 9, 9, 0);
+    answer = view(BEYUNLAK_CAMERA, BEYUNLAK_VIEW_MAX);
+    check("the camera's view of P1, byte by byte", answer == 0 && memcmp(out, camera, 12) == 0 && untouched_from(12));
+    start(0, 0);
+    put(0, 2);
+    put(0, 2);
+    counts(0, 1, 2, 3, 4);
+    for (uint32_t caller = 0; caller < BEYUNLAK_DEVICES; caller++)
+        sees("no events", caller, NULL, 0);
+}
+
+/* Ten events, two of each device, free and committed. */
+static void view_devices(void)
+{
+    static const uint32_t flags[] = {0, 1, 2, 512, 341, 682, 1023};
+    const uint32_t numbers[BEYUNLAK_DEVICES] = {2, 9, 300, 65535, 2};
+    char text[80];
+    for (size_t k = 0; k < sizeof flags / sizeof *flags; k++)
+        for (uint32_t caller = 0; caller < BEYUNLAK_DEVICES; caller++) {
+            uint32_t events[10][4], count = 0;
+            for (uint32_t i = 0; i < ten; i++)
+                if (caller == BEYUNLAK_DATABASE || two_each[i] == caller) {
+                    events[count][0] = i + 1;
+                    events[count][1] = flags[k] >> i & 1;
+                    events[count][2] = i == 6 ? 3 : 0;
+                    events[count++][3] = i == 6 ? 4 : 9;
+                }
+            devices(flags[k], 7, 3, 4, numbers);
+            sprintf(text, "flags %u", (unsigned)flags[k]);
+            sees(text, caller, (const uint32_t(*)[4])events, count);
+        }
+}
+
+/* Forty events, in numbers of four bytes: the longest view, of the device that owns them and of the database. */
+static void longest_view(void)
+{
+    static uint32_t all[BEYUNLAK_EVENTS_MAX][4];
+    for (uint32_t k = 0; k < BEYUNLAK_EVENTS_MAX; k++) {
+        all[k][0] = k + 1;
+        all[k][1] = 1;
+        all[k][2] = k == 39 ? 70000 : 0;
+        all[k][3] = k == 39 ? 999999 : BEYUNLAK_HORIZON_MAX;
+    }
+    longest_record(70000, 999999, 40);
+    sees("the longest record", BEYUNLAK_CAMERA, (const uint32_t(*)[4])all, BEYUNLAK_EVENTS_MAX);
+    sees("the longest record", BEYUNLAK_DATABASE, (const uint32_t(*)[4])all, BEYUNLAK_EVENTS_MAX);
+    sees("the longest record", BEYUNLAK_STAGE, NULL, 0);
+}
+
+/* The first cause decides: 10, 19, the record, 15. */
+static void view_order(void)
+{
+    char text[80];
+    for (uint32_t number = 0; number < WRONG_RECORDS; number++) {
+        wrong_record(number);
+        for (uint32_t caller = 0; record_answers[number] && caller < BEYUNLAK_DEVICES; caller++) {
+            sprintf(text, "record %u, caller %u", (unsigned)number, (unsigned)caller);
+            refuses(text, view(caller, BEYUNLAK_VIEW_MAX), record_answers[number]);
+        }
+        for (size_t k = 0; k < NO_DEVICES; k++) {
+            sprintf(text, "19, record %u, caller %u", (unsigned)number, (unsigned)no_device[k]);
+            refuses(text, view(no_device[k], BEYUNLAK_VIEW_MAX), BEYUNLAK_CALLER);
+            refuses(text, view(no_device[k], sizeof out), BEYUNLAK_CALLER);
+        }
+        for (size_t length = 0; length < BEYUNLAK_VIEW_MAX; length += length < 370 ? 37 : 1) {
+            sprintf(text, "10, record %u, an output of %u bytes", (unsigned)number, (unsigned)length);
+            refuses(text, view((uint32_t)length % BEYUNLAK_DEVICES, length), BEYUNLAK_SHORT);
+            refuses(text, view(no_device[length % NO_DEVICES], length), BEYUNLAK_SHORT);
+        }
+    }
+}
+
+/* Wherever the bytes of a record end it is 1, and a byte more is 8, for every device. */
+static void view_bytes(void)
+{
+    trains_flags(1, 10, 10, 1, 10, 12, 2, 1);
+    const size_t whole = in_len;
+    int cut = 1;
+    for (in_len = 0; in_len < whole; in_len++)
+        for (uint32_t caller = 0; caller < BEYUNLAK_DEVICES; caller++)
+            cut = cut && view(caller, BEYUNLAK_VIEW_MAX) == BEYUNLAK_CUT && untouched_from(0);
+    check("1 wherever the bytes end", cut);
+    put(0, 1);
+    for (uint32_t caller = 0; caller < BEYUNLAK_DEVICES; caller++)
+        refuses("8", view(caller, BEYUNLAK_VIEW_MAX), BEYUNLAK_TRAILING);
+}
+
+/* Memory of just the lengths that are asked for, at any address. */
+static void view_exact(void)
+{
+    static const uint32_t flash[][4] = {{2, 1, 10, 12}};
+    for (size_t k = 0; k < 4; k++) {
+        trains_flags(1, 10, 10, 1, 10, 12, 2, 1);
+        fill();
+        uint8_t *record = malloc(in_len + k), *to = malloc(BEYUNLAK_VIEW_MAX + k);
+        memcpy(record + k, in, in_len);
+        memcpy(to + k, out, BEYUNLAK_VIEW_MAX);
+        uint32_t answer = beyunlak_view(record + k, in_len, BEYUNLAK_LAMPS, to + k, BEYUNLAK_VIEW_MAX);
+        memcpy(out, to + k, BEYUNLAK_VIEW_MAX);
+        check("just enough memory, the input", memcmp(record + k, in, in_len) == 0);
+        view_of(flash, 1);
+        gives("just enough memory, the view", answer);
+        free(record);
+        free(to);
+    }
+}
+
+/* The events of a device, by their numbers, and its count: what it may know of a record. */
+struct own {
+    uint32_t device, count, windows[12][3];
+    int has[12];
+};
+
+static struct own drawn_own(void)
+{
+    static const uint32_t more[] = {0, 2, 65000};
+    struct own own = {draw(3), 0, {{0}}, {0}};
+    uint32_t flags = 0;
+    for (int i = 0; i < 12; i++)
+        if (draw(2) == 0) {
+            own.has[i] = 1;
+            flags += own.windows[i][0] = draw(1);
+            own.windows[i][1] = draw(500);
+            own.windows[i][2] = own.windows[i][1] + draw(draw(1) ? 400 : 1);
+        }
+    own.count = draw(3) ? flags + draw(more[draw(2)]) : BEYUNLAK_COUNT_MAX;
+    return own;
+}
+
+/* A record with these events of the device and its count, whose windows are fit, and all else drawn: the horizon, the
+ * other events, their owners, windows and flags, how many there are, the rules, and the other counts. */
+static void drawn_record(const struct own *own)
+{
+    uint32_t n = draw(8), owner[20], windows[21][3] = {{0}}, numbers[BEYUNLAK_DEVICES] = {0};
+    const uint32_t horizon = 1000 + draw(9000), rules = draw(40);
+    for (uint32_t i = 0; i < 12; i++)
+        if (own->has[i] && n < i + 1)
+            n = i + 1;
+    for (uint32_t i = 0; i < n; i++) {
+        const int has = i < 12 && own->has[i];
+        owner[i] = has ? own->device : (own->device + 1 + draw(3)) % BEYUNLAK_DEVICES;
+        windows[i + 1][0] = has ? own->windows[i][0] : draw(1);
+        windows[i + 1][1] = has ? own->windows[i][1] : draw(horizon);
+        windows[i + 1][2] = has ? own->windows[i][2] : windows[i + 1][1] + draw(horizon - windows[i + 1][1]);
+        numbers[owner[i]] += windows[i + 1][0];
+    }
+    for (uint32_t device = 0; device < BEYUNLAK_DEVICES; device++)
+        numbers[device] = device == own->device ? own->count : draw(2) ? numbers[device] + draw(300) : BEYUNLAK_COUNT_MAX;
+    start(horizon, n);
+    for (uint32_t i = 0; i < n; i++)
+        put(owner[i], 1);
+    put(n ? rules : 0, 2);
+    for (uint32_t k = 0; n && k < rules; k++) {
+        const uint32_t from = draw(n), to = (from + 1 + draw(n - 1)) % (n + 1);
+        rule(from, to, (int32_t)windows[to][2] - (int32_t)windows[from][1] + (int32_t)draw(draw(1) ? 0 : 900));
+    }
+    put(n, 2);
+    for (uint32_t i = 1; i <= n; i++)
+        window(windows[i][0], windows[i][1], windows[i][2]);
+    counts(numbers[0], numbers[1], numbers[2], numbers[3], numbers[4]);
+}
+
+/* Two records in which a device has the same events, windows, flags and count: it sees the same, and each of its
+ * commitments is answered with the same number. */
+static void as_far_as_it_sees(void)
+{
+    static uint8_t records[2][BEYUNLAK_RECORD_MAX], views[2][BEYUNLAK_VIEW_MAX];
+    size_t lengths[2];
+    uint32_t seen = 0;
+    char text[80];
+    for (uint32_t k = 0; k < 300; k++) {
+        const struct own own = drawn_own();
+        int good = 1, same = 1;
+        for (int i = 0; i < 2; i++) {
+            drawn_record(&own);
+            memcpy(records[i], in, lengths[i] = in_len);
+            good = good && view(own.device, BEYUNLAK_VIEW_MAX) == BEYUNLAK_ACCEPTED;
+            good = good && untouched_from(BEYUNLAK_VIEW_LENGTH(out[0]));
+            memcpy(views[i], out, BEYUNLAK_VIEW_MAX);
+        }
+        good = good && memcmp(views[0], views[1], BEYUNLAK_VIEW_MAX) == 0;
+        sprintf(text, "two records, views %u", (unsigned)k);
+        check(text, good);
+        for (uint32_t asked = 0; asked < 60; asked++) {
+            const uint32_t event = asked / 4, *w = own.windows[event ? (event - 1) % 12 : 0], middle = (w[1] + w[2]) / 2;
+            const uint32_t ends[4][2] = {{w[1], w[2]}, {middle, middle}, {w[1], w[2] + 1}, {w[2], w[1]}};
+            uint32_t answers[2];
+            for (int i = 0; i < 2; i++) {
+                memcpy(in, records[i], in_len = lengths[i]);
+                answers[i] = commit_as(own.device, event, ends[asked % 4][0], ends[asked % 4][1], BEYUNLAK_RECORD_MAX);
+                same = same && (answers[i] == BEYUNLAK_ACCEPTED || untouched_from(0));
+            }
+            same = same && answers[0] == answers[1];
+            if (answers[0] < 32)
+                seen |= 1u << answers[0];
+        }
+        sprintf(text, "two records, answers %u", (unsigned)k);
+        check(text, same);
+    }
+    check("0, 13, 18 and 20 were among them", seen == (1u | 1u << 13 | 1u << 18 | 1u << 20));
+}
+
 int main(int count, char **words)
 {
     (void)words;
@@ -1793,6 +2170,18 @@ int main(int count, char **words)
         of = asked;
         malformed();
     }
+    planning = beyunlak_plan;
+    of = "callers: ";
+    callers();
+    caller_order();
+    of = "view: ";
+    view_examples();
+    view_devices();
+    longest_view();
+    view_order();
+    view_bytes();
+    view_exact();
+    as_far_as_it_sees();
     planning = beyunlak_plan_latest;
     of = "latest ";
     tickets();

@@ -302,24 +302,109 @@ good $(($? != 1)) 'show a record of the former layout without events: exit statu
 echo "$no_record 10$former" >"$work/wanted"
 same 'show a record of the former layout without events' "$work/wanted" "$work/got"
 
-# ---- commitments in the text tool
+# viewed NAME DEVICE TAIL WANTED: what a device sees of the record of P1's ticket and these bytes; / stands for a line end
+viewed() {
+    { cat examples/tickets/p1.ticket; bytes "$3"; } >"$work/record"
+    printf '%s\n' "$4" | tr '/' '\n' >"$work/wanted"
+    tools/ticket show "$work/record" --as "$2" >"$work/got" 2>"$work/errors"
+    good $? "show --as $2, $1: exit status"
+    same "show --as $2, $1" "$work/wanted" "$work/got"
+    if [ -s "$work/errors" ]; then fail "show --as $2, $1: wrote to standard error"; else pass; fi
+    tools/ticket show --as "$2" "$work/record" >"$work/got"
+    same "show --as $2 before the record, $1" "$work/wanted" "$work/got"
+    tools/ticket show --as "$2" <"$work/record" >"$work/got"
+    same "show --as $2 from standard input, $1" "$work/wanted" "$work/got"
+    tools/ticket show - --as "$2" <"$work/record" >"$work/got"
+    same "show - --as $2, $1" "$work/wanted" "$work/got"
+}
+# own DEVICE COUNT: how a device's own count is shown
+own() { printf '/# accepted commitments of %s: %s' "$@"; }
+p1_record="$p1_free 0500 0100 0200 0300 0400 0500"
+viewed 'a plan, counts from elsewhere' camera "$p1_record" "# view of camera, 1 event/# window e1 5..11 free$(own camera 1)"
+viewed 'a plan, counts from elsewhere' filter-wheel "$p1_record" "# view of filter-wheel, no events$(own filter-wheel 2)"
+viewed 'a plan, counts from elsewhere' lamps "$p1_record" "# view of lamps, 1 event/# window e2 9..9 free$(own lamps 3)"
+viewed 'a plan, counts from elsewhere' stage "$p1_record" "# view of stage, no events$(own stage 4)"
+viewed 'a plan, counts from elsewhere' database "$p1_record" "# view of database, 2 events/# window e1 5..11 free/# window e2 9..9 free$(own database 5)"
+viewed 'by number' 0 "$p1_record" "# view of camera, 1 event/# window e1 5..11 free$(own camera 1)"
+viewed 'by number' 3 "$p1_record" "# view of stage, no events$(own stage 4)"
+viewed 'by number' 4 "$p1_record" "# view of database, 2 events/# window e1 5..11 free/# window e2 9..9 free$(own database 5)"
+p1_record="$p1_one 0500 ffff feff 0080 ffff ff00"
+viewed 'one committed' camera "$p1_record" "# view of camera, 1 event/# window e1 10..10 committed$(own camera 65535)"
+viewed 'one committed' lamps "$p1_record" "# view of lamps, 1 event/# window e2 8..14 free$(own lamps 32768)"
+p1_record="$p1_both 0500 0200 0000 0100 0000 0000"
+lamps_view="# view of lamps, 1 event/# window e2 10..12 committed$(own lamps 1)"
+viewed 'both committed' lamps "$p1_record" "$lamps_view"
+viewed 'both committed' database "$p1_record" "# view of database, 2 events/# window e1 10..10 committed/# window e2 10..12 committed$(own database 0)"
+# without events there is nothing to see
+bytes '00000000 0000 0000 0000 0500 0100 0000 0000 0000 0700' >"$work/record"
+for device in camera stage database; do
+    tools/ticket show "$work/record" --as $device >"$work/got"
+    case $device in camera) number=1 ;; stage) number=0 ;; database) number=7 ;; esac
+    printf '# view of %s, no events%s\n' $device "$(own $device "$number")" | tr '/' '\n' >"$work/wanted"
+    same "show --as $device, no events" "$work/wanted" "$work/got"
+done
 
-# numbers TEXT COMMITMENTS WANTED: what examples/commit.c takes for these commitments
+# unviewed NAME DEVICE HEX WANTED: the bytes are refused for the reason, and nothing is printed
+unviewed() {
+    bytes "$3" >"$work/record"
+    echo "$4" >"$work/wanted"
+    tools/ticket show "$work/record" --as "$2" >"$work/got" 2>"$work/errors"
+    good $(($? != 1)) "show --as $2 refuses $1: exit status"
+    same "show --as $2 refuses $1" "$work/wanted" "$work/errors"
+    if [ -s "$work/got" ]; then fail "show --as $2 refuses $1: wrote to standard output"; else pass; fi
+}
+p1_hex="$(od -An -v -tx1 examples/tickets/p1.ticket | tr -d '\n')"
+for device in camera stage database 2; do
+    unviewed 'a ticket' $device "$p1_hex" 'this is a ticket: a device sees windows, which a record has'
+    unviewed 'nothing' $device '' "$cut 0)"
+    unviewed 'a ticket cut' $device '14000000 02' "$cut 4)"
+    unviewed 'a wrong owner' $device '05000000 0100 05 0000' 'refused 4: an owner, or the device of a part, is above 4 (byte 6)'
+    unviewed 'a record cut' $device "$p1_hex $p1_one 0500 0100 0000 0000 0000 00" "$cut 76)"
+    unviewed 'a byte more' $device "$p1_hex $p1_one 0500 0100 0000 0000 0000 0000 00" 'refused 8: bytes follow the end (byte 78)'
+    unviewed 'a flag of 2' $device "$p1_hex 0200 02 05000000 0a000000 00 08000000 09000000 0500 0000 0000 0000 0000 0000" "$no_record 48)"
+    unviewed 'a count too low' $device "$p1_hex $p1_one 0500 0000 0000 0000 0000 0000" "$no_record 68)"
+    unviewed 'the former layout' $device "$p1_hex $p1_one 0200" "$no_record 66; the bytes end as in the former layout, with one number for all devices)"
+    # each rule of P1 broken by a tick
+    for windows in '05000000 10000000 00 09000000 09000000' '04000000 0b000000 00 09000000 09000000' '0f000000 0f000000 00 0d000000 14000000' \
+        '05000000 09000000 00 07000000 09000000' '05000000 0b000000 00 09000000 0a000000' '05000000 0c000000 00 09000000 09000000'; do
+        unviewed "windows that are not fit, $windows" $device "$p1_hex 0200 00 $windows 0500 0000 0000 0000 0000 0000" \
+            "refused 15: the record's windows allow a choice that breaks a rule"
+    done
+done
+no_device='it is none of camera, filter-wheel, lamps, stage, database, and no number 0 to 4'
+for word in wheel filterwheel Camera 'camera ' 5 00 -1 all --as ''; do
+    unviewed 'what is no device' "$word" '' "device '$word': $no_device"
+    unviewed 'what is no device' "$word" "$p1_hex $p1_free 0500 0000 0000 0000 0000 0000" "device '$word': $no_device"
+done
+tools/ticket show "$work/none" --as camera >"$work/got" 2>"$work/errors"
+if [ $? -eq 1 ] && [ ! -s "$work/got" ] && [ -s "$work/errors" ]; then pass; else fail 'show --as without a file'; fi
+# the bytes of a view may be those of a ticket
+bytes '0100 01 00 04000000 04000000' | tools/ticket show >"$work/got"
+printf '# ticket, 12 bytes\nhorizon 65537\nevent e1 camera\nevent e2 camera\nevent e3 database\nevent e4 camera\n' >"$work/wanted"
+same "show the bytes of a view" "$work/wanted" "$work/got"
+
+# ---- commitments and views in the text tool
+
+# numbers TEXT COMMITMENTS WANTED: what examples/commit.c and examples/view.c take for these commitments
 numbers() {
     tools/ticket by "$1" "$2" >"$work/got"
     good $? "by '$2': exit status"
     echo "$3" >"$work/wanted"
     same "by '$2'" "$work/wanted" "$work/got"
 }
-numbers $p1 'shutter 6..10' '1 6 10'
-numbers $p1 'shutter 6..10, shutter 10..10' '1 6 10 1 10 10'
-numbers $p1 '  flash  0.8s .. 9 ,shutter 1s..1.0s  ' '2 8 9 1 10 10'
-numbers $p1 'flash 9..8,flash 0..4294967295' '2 9 8 2 0 4294967295'
+numbers $p1 'shutter 6..10' '0 1 6 10'
+numbers $p1 'shutter 6..10, shutter 10..10' '0 1 6 10 0 1 10 10'
+numbers $p1 '  flash  0.8s .. 9 ,shutter 1s..1.0s  ' '2 2 8 9 0 1 10 10'
+numbers $p1 'flash 9..8,flash 0..4294967295' '2 2 9 8 2 2 0 4294967295'
+numbers $p1 'shutter 6..10 as lamps' '2 1 6 10'
+numbers $p1 'shutter 6..10 as camera, flash 9..9  as  filter-wheel ,flash 9..9 as 4' '0 1 6 10 1 2 9 9 4 2 9 9'
+numbers $p1 'shutter 0.6s..1s as stage,shutter 6..10' '3 1 6 10 0 1 6 10'
+numbers $p1 'shutter 6..10 as database' '4 1 6 10'
 numbers $p1 '' ''
 numbers $p1 ' ' ''
 numbers examples/tickets/p8.txt '' ''
-numbers examples/tickets/session.txt 'field 5s..8s, field 6s..6s' '1 50 80 1 60 60'
-numbers examples/tickets/session.txt 'lamps-off 71s..71s' '9 710 710'
+numbers examples/tickets/session.txt 'field 5s..8s, field 6s..6s' '3 1 50 80 3 1 60 60'
+numbers examples/tickets/session.txt 'lamps-off 71s..71s, stored1 1..1' '2 9 710 710 4 5 1 1'
 
 # no_numbers COMMITMENTS PART REASON: they are refused at the part, and nothing is printed
 no_numbers() {
@@ -329,7 +414,7 @@ no_numbers() {
     same "by refuses '$1'" "$work/wanted" "$work/errors"
     if [ -s "$work/got" ]; then fail "by refuses '$1': wrote to standard output"; else pass; fi
 }
-no_form="this is not of the form 'NAME OPEN..CLOSE'; a comma stands between two"
+no_form="this is not of the form 'NAME OPEN..CLOSE' or 'NAME OPEN..CLOSE as DEVICE'; a comma stands between two"
 no_numbers 'shuter 6..10' 'shuter 6..10' "$p1 has no event 'shuter'"
 no_numbers 'shutter 6..10, Flash 8..9' 'Flash 8..9' "$p1 has no event 'Flash'"
 no_numbers 'start 0..0' 'start 0..0' "$p1 has no event 'start'"
@@ -344,6 +429,12 @@ no_numbers 'shutter 6..10 shutter 10..10' 'shutter 6..10 shutter 10..10' "$no_fo
 no_numbers 'shutter 6..10, ' '' "$no_form"
 no_numbers 'shutter 6..10,,shutter 10..10' '' "$no_form"
 no_numbers ',' '' "$no_form"
+no_numbers 'shutter 6..10 as' 'shutter 6..10 as' "$no_form"
+no_numbers 'shutter 6..10 by lamps' 'shutter 6..10 by lamps' "$no_form"
+no_numbers 'shutter 6..10 as lamps stage' 'shutter 6..10 as lamps stage' "$no_form"
+no_numbers 'shutter as lamps 6..10' 'shutter as lamps 6..10' "$no_form"
+no_numbers 'lamps: shutter 6..10' 'lamps: shutter 6..10' "$no_form"
+for word in wheel Lamps 5 02; do no_numbers "flash 9..9, shutter 6..10 as $word" "shutter 6..10 as $word" "device '$word': $no_device"; done
 no_numbers 'shutter -1..10' 'shutter -1..10' 'the open is -1 ticks, and must lie in 0 to 4294967295'
 no_numbers 'shutter 6..-0.1s' 'shutter 6..-0.1s' 'the close is -1 ticks, and must lie in 0 to 4294967295'
 no_numbers 'shutter 6..4294967296' 'shutter 6..4294967296' 'the close is 4294967296 ticks, and must lie in 0 to 4294967295'
@@ -352,20 +443,24 @@ if [ $? -eq 1 ] && [ ! -s "$work/got" ] && [ -s "$work/errors" ]; then pass; els
 
 # what examples/commit.c writes for the commitments of docs/TEXT-FORM.md, and with names
 p1_plan='record 18 0 0 0 0 0/1 0 5 11/2 0 9 9'
-p1_twice="$p1_plan/commit 1 6 10/record 14 1 0 0 0 0/1 1 6 10/2 0 8 10/commit 1 10 10/record 6 2 0 0 0 0/1 1 10 10/2 0 8 14"
-p1_run="$p1_twice/commit 1 9 9/refused 13/commit 2 10 12/record 2 2 0 1 0 0/1 1 10 10/2 1 10 12"
+p1_twice="$p1_plan/commit 0 1 6 10/record 14 1 0 0 0 0/1 1 6 10/2 0 8 10/commit 0 1 10 10/record 6 2 0 0 0 0/1 1 10 10/2 0 8 14"
+p1_run="$p1_twice/commit 0 1 9 9/refused 13/commit 2 1 10 10/refused 20/commit 2 2 10 12/record 2 2 0 1 0 0/1 1 10 10/2 1 10 12"
+p1_run_words='0 1 6 10 0 1 10 10 0 1 9 9 2 1 10 10 2 2 10 12'
 p1_plan_told='plan: total 18, none accepted/  shutter  5..11/  flash    9..9'
 p1_twice_told="$p1_plan_told/shutter commits 6..10: total 14, accepted camera 1/  shutter  6..10 committed/  flash    8..10/shutter commits 10..10: total 6, accepted camera 2/  shutter 10..10 committed/  flash    8..14"
 p1_outside="refused 13: the open is above the close, or they are not inside the event's window"
-p1_run_told="$p1_twice_told/shutter commits 9..9: $p1_outside/flash commits 10..12: total 2, accepted camera 2, lamps 1/  shutter 10..10 committed/  flash   10..12 committed"
+not_own='refused 20: the caller owns no such event'
+p1_run_told="$p1_twice_told/shutter commits 9..9: $p1_outside/shutter commits 10..10 as lamps: $not_own/flash commits 10..12: total 2, accepted camera 2, lamps 1/  shutter 10..10 committed/  flash   10..12 committed"
 tells commits 'P1' $p1 "$p1_run" "$p1_run_told" 0
 tells commits 'a plan alone' $p1 "$p1_plan" 'plan: total 18, none accepted/  shutter 5..11/  flash   9..9' 0
-tells commits 'no events' examples/tickets/p8.txt 'record 0 0 0 0 0 0/commit 1 0 0/refused 11' 'plan: total 0, none accepted/event 1 commits 0..0: refused 11: there is no such event to commit' 0
-tells commits 'the start, and numbers that no event has' $p1 "$p1_plan/commit 0 0 0/refused 11/commit 3 0 0/refused 11" \
-    'plan: total 18, none accepted/  shutter 5..11/  flash   9..9/event 0 commits 0..0: refused 11: there is no such event to commit/event 3 commits 0..0: refused 11: there is no such event to commit' 0
+tells commits 'no events' examples/tickets/p8.txt 'record 0 0 0 0 0 0/commit 0 1 0 0/refused 20' "plan: total 0, none accepted/event 1 commits 0..0 as camera: $not_own" 0
+tells commits 'the start, and numbers that no event has' $p1 "$p1_plan/commit 2 0 0 0/refused 20/commit 4 3 0 0/refused 20" \
+    "plan: total 18, none accepted/  shutter 5..11/  flash   9..9/event 0 commits 0..0 as lamps: $not_own/event 3 commits 0..0 as database: $not_own" 0
+tells commits 'callers' $p1 "$p1_plan/commit 1 1 6 6/refused 20/commit 3 2 9 9/refused 20/commit 4 2 9 9/refused 20/commit 5 2 9 9/refused 19/commit 4294967295 7 9 9/refused 19" \
+    "plan: total 18, none accepted/  shutter 5..11/  flash   9..9/shutter commits 6..6 as filter-wheel: $not_own/flash commits 9..9 as stage: $not_own/flash commits 9..9 as database: $not_own/flash commits 9..9 as device 5: refused 19: the caller is no device: above 4/event 7 commits 9..9 as device 4294967295: refused 19: the caller is no device: above 4" 0
 tells commits 'each device' $p1 'record 18 1 2 3 4 5/1 0 5 11/2 0 9 9' \
     'plan: total 18, accepted camera 1, filter-wheel 2, lamps 3, stage 4, database 5/  shutter 5..11/  flash   9..9' 0
-tells commits '18' $p1 'record 18 65535 0 0 0 0/1 1 5 11/2 0 9 9/commit 1 5 11/refused 18' \
+tells commits '18' $p1 'record 18 65535 0 0 0 0/1 1 5 11/2 0 9 9/commit 0 1 5 11/refused 18' \
     "plan: total 18, accepted camera 65535/  shutter 5..11 committed/  flash   9..9/shutter commits 5..11: refused 18: the count of accepted commitments of the event's owner is 65,535 and cannot rise" 0
 tells commits 'closes of two lengths' $p1 'record 18 0 0 0 0 0/1 1 5 11/2 1 9 9' 'plan: total 18, none accepted/  shutter 5..11 committed/  flash   9..9  committed' 0
 tells commits 'refused' $p1 'refused 9' 'refused 9: no times keep all rules' 1
@@ -383,15 +478,51 @@ no_run 'a count missing' 'record 18 0 0 0 0/1 0 5 11/2 0 9 9'
 no_run 'a count too many' 'record 18 0 0 0 0 0 0/1 0 5 11/2 0 9 9'
 no_run 'a count that is a word' 'record 18 0 0 one 0 0/1 0 5 11/2 0 9 9'
 no_run 'one number for all devices' 'record 0 18/1 0 5 11/2 0 9 9'
-no_run 'no plan' 'commit 1 6 10/record 14 1 0 0 0 0/1 1 6 10/2 0 8 10'
+no_run 'no plan' 'commit 0 1 6 10/record 14 1 0 0 0 0/1 1 6 10/2 0 8 10'
 no_run 'two plans' "$p1_plan/$p1_plan"
-no_run 'no answer' "$p1_plan/commit 1 6 10"
-no_run 'no answer to the first' "$p1_plan/commit 1 6 10/commit 1 6 10/refused 13"
-no_run 'two answers' "$p1_plan/commit 1 6 10/refused 13/refused 13"
-no_run 'a commitment without a close' "$p1_plan/commit 1 6/refused 13"
-no_run 'an unknown number' "$p1_plan/commit 1 6 10/refused 99"
+no_run 'no answer' "$p1_plan/commit 0 1 6 10"
+no_run 'no answer to the first' "$p1_plan/commit 0 1 6 10/commit 0 1 6 10/refused 13"
+no_run 'two answers' "$p1_plan/commit 0 1 6 10/refused 13/refused 13"
+no_run 'a commitment without a caller' "$p1_plan/commit 1 6 10/refused 13"
+no_run 'a number too many' "$p1_plan/commit 0 1 6 10 10/refused 13"
+no_run 'a caller that is a word' "$p1_plan/commit camera 1 6 10/refused 13"
+no_run 'an unknown number' "$p1_plan/commit 0 1 6 10/refused 99"
 no_run 'a refusal of nothing' "$p1_plan/refused 13"
-no_run 'a line that is empty' "$p1_plan//commit 1 9 9/refused 13"
+no_run 'a line that is empty' "$p1_plan//commit 0 1 9 9/refused 13"
+
+# what examples/view.c writes for P1 where the shutter commits to tick 10, the lamps ask for it too, and the flash commits
+p1_views='view 0/1 0 5 11/view 1/view 2/2 0 9 9/view 3/view 4/1 0 5 11/2 0 9 9'
+p1_seen="$p1_views/commit 0 1 10 10/view 0/1 1 10 10/view 1/view 2/2 0 8 14/view 3/view 4/1 1 10 10/2 0 8 14"
+p1_views_run="$p1_seen/commit 2 1 10 10/refused 20/commit 2 2 9 12/view 0/1 1 10 10/view 1/view 2/2 1 9 12/view 3/view 4/1 1 10 10/2 1 9 12"
+p1_views_told='plan/  camera: shutter 5..11/  filter-wheel: no events/  lamps: flash 9..9/  stage: no events/  database: shutter 5..11, flash 9..9'
+p1_seen_told="$p1_views_told/shutter commits 10..10/  camera: shutter 10..10 committed/  filter-wheel: no events/  lamps: flash 8..14/  stage: no events/  database: shutter 10..10 committed, flash 8..14"
+p1_views_run_told="$p1_seen_told/shutter commits 10..10 as lamps: $not_own/flash commits 9..12/  camera: shutter 10..10 committed/  filter-wheel: no events/  lamps: flash 9..12 committed/  stage: no events/  database: shutter 10..10 committed, flash 9..12 committed"
+tells views 'P1' $p1 "$p1_views_run" "$p1_views_run_told" 0
+tells views 'a plan alone' $p1 "$p1_views" "$p1_views_told" 0
+tells views 'no events' examples/tickets/p8.txt 'view 0/view 1/view 2/view 3/view 4' \
+    'plan/  camera: no events/  filter-wheel: no events/  lamps: no events/  stage: no events/  database: no events' 0
+tells views 'one device owns all' $p4 'view 0/view 1/view 2/view 3/1 0 0 5/2 0 0 0/3 0 0 0/view 4/1 0 0 5/2 0 0 0/3 0 0 0' \
+    'plan/  camera: no events/  filter-wheel: no events/  lamps: no events/  stage: move1 0..5, move2 0..0, move3 0..0/  database: move1 0..5, move2 0..0, move3 0..0' 0
+tells views 'refused' $p1 'refused 9' 'refused 9: no times keep all rules' 1
+# no_views NAME LINES: the lines are no views on the plan of P1
+no_views() { untold views "$1" $p1 "$2" "this is no run of commitments on the plan of $p1"; }
+no_views 'nothing' ''
+no_views 'records' "$p1_run"
+no_views 'a view missing' "${p1_views%/view 4*}"
+no_views 'a view too many' "$p1_views/view 5"
+no_views 'views in another order' 'view 1/view 0/1 0 5 11/view 2/2 0 9 9/view 3/view 4/1 0 5 11/2 0 9 9'
+no_views 'an event that a device does not see' 'view 0/1 0 5 11/2 0 9 9/view 1/view 2/2 0 9 9/view 3/view 4/1 0 5 11/2 0 9 9'
+no_views 'an event of another device' 'view 0/2 0 5 11/view 1/view 2/2 0 9 9/view 3/view 4/1 0 5 11/2 0 9 9'
+no_views 'an event missing' 'view 0/1 0 5 11/view 1/view 2/view 3/view 4/1 0 5 11/2 0 9 9'
+no_views 'an event that the database does not see' 'view 0/1 0 5 11/view 1/view 2/2 0 9 9/view 3/view 4/2 0 9 9'
+no_views 'events in another order' 'view 0/1 0 5 11/view 1/view 2/2 0 9 9/view 3/view 4/2 0 9 9/1 0 5 11'
+no_views 'a flag of 2' 'view 0/1 2 5 11/view 1/view 2/2 0 9 9/view 3/view 4/1 0 5 11/2 0 9 9'
+no_views 'no flag' 'view 0/1 5 11/view 1/view 2/2 9 9/view 3/view 4/1 5 11/2 9 9'
+no_views 'a word in it' 'view 0/1 0 five 11/view 1/view 2/2 0 9 9/view 3/view 4/1 0 5 11/2 0 9 9'
+no_views 'no answer' "$p1_views/commit 0 1 10 10"
+no_views 'a commitment without a caller' "$p1_views/commit 1 10 10/refused 13"
+no_views 'an unknown number' "$p1_views/commit 0 1 10 10/refused 99"
+no_views 'a line that is empty' "$p1_views//commit 0 1 9 9/refused 13"
 
 # ---- lists of names and reasons in the text tool
 
@@ -592,7 +723,6 @@ number lamps 2
 number stage 3
 number database 4
 for word in 0 1 2 3 4; do number $word $word; done
-no_device='it is none of camera, filter-wheel, lamps, stage, database, and no number 0 to 4'
 for word in wheel filterwheel Camera 'camera ' lamp 5 00 -1 1.0 4294967296 ''; do
     tools/ticket device "$word" >"$work/got" 2>"$work/errors"
     good $(($? != 1)) "device refuses '$word': exit status"
@@ -630,12 +760,12 @@ no_part 'two parts' 'part 1 0/part 3 0'
 no_part 'a plan' 'plan 2 18/1 0 5 11/2 2 9 9/30 0 11 0 0'
 untold part 'events in another order' $session 'part 0 570/7 110 300/4 50 50' "this is no part of $session"
 
-for number in 12 16 17 18; do
+for number in 11 12 16 17 18 19 20; do
     echo "refused $number" | tools/ticket explain >"$work/got" 2>"$work/errors"
     if [ $? -eq 1 ] && grep -q "^refused $number: ...*" "$work/errors" && [ ! -s "$work/got" ]; then pass; else fail "explain $number"; fi
 done
-for command in 'list' 'reason' 'mended' 'device' 'part' 'table' 'stops' 'by' 'by a' 'commits' 'names a b' 'encode a b c d' 'list a b c' \
-    'reason a b c' 'mended a b c' 'device camera lamps' 'part a b c' 'table a b c' 'stops a b c' 'by a b c' 'commits a b c'; do
+for command in 'list' 'reason' 'mended' 'device' 'part' 'table' 'stops' 'by' 'by a' 'commits' 'views' 'names a b' 'show a b' 'show --as' 'show a --as' 'show - a --as camera' 'show --as camera a b' 'show --as camera --as camera' 'show --as camera a --as' 'encode a b c d' 'list a b c' \
+    'reason a b c' 'mended a b c' 'device camera lamps' 'part a b c' 'table a b c' 'stops a b c' 'by a b c' 'commits a b c' 'views a b c'; do
     # shellcheck disable=SC2086
     tools/ticket $command >"$work/got" 2>"$work/errors"
     if [ $? -eq 2 ] && [ ! -s "$work/got" ]; then pass; else fail "the wrong call '$command'"; fi
@@ -671,6 +801,9 @@ misused() {
     same "$1 called with '$3', with $compiler" "$work/wanted" "$work/errors"
     if [ -s "$work/got" ]; then fail "$1 called with '$3', with $compiler: wrote to standard output"; else pass; fi
 }
+# what each device sees of the session's plan, and once the database has committed its second event
+session_views='view 0/4 0 540 590/7 0 650 790/view 1/2 0 15 535/6 0 645 645/view 2/3 0 250 490/9 0 850 850/view 3/1 0 30 200/view 4/1 0 30 200/2 0 15 535/3 0 250 490/4 0 540 590/5 0 630 630/6 0 645 645/7 0 650 790/8 0 850 850/9 0 850 850'
+session_stored=$(echo "$session_views" | sed 's,/8 0 ,/8 1 ,')
 for compiler in gcc clang; do
     command -v $compiler >/dev/null || continue
     $compiler -std=c99 -Wall -Wextra -Werror -pedantic -Iinclude examples/host.c "$library" -o "$work/host" && "$work/host" >"$work/got"
@@ -725,15 +858,17 @@ TABLES
         same "commitments on ${name% }: $words, with $compiler" "$work/wanted" "$work/got"
     done <<RUNS
 p1 | | $p1_plan
-p1 | 1 6 10 1 10 10 1 9 9 2 10 12 | $p1_run
-p1 | 01 006 10 1 10 10 | $p1_twice
-p1 | 1 10 10 1 10 10 | $p1_plan/commit 1 10 10/record 6 1 0 0 0 0/1 1 10 10/2 0 8 14/commit 1 10 10/record 6 2 0 0 0 0/1 1 10 10/2 0 8 14
-p1 | 2 9 9 1 5 11 2 9 9 | $p1_plan/commit 2 9 9/record 18 0 0 1 0 0/1 0 5 11/2 1 9 9/commit 1 5 11/record 18 1 0 1 0 0/1 1 5 11/2 1 9 9/commit 2 9 9/record 18 1 0 2 0 0/1 1 5 11/2 1 9 9
-p1 | 0 5 5 3 5 5 4294967295 0 0 | $p1_plan/commit 0 5 5/refused 11/commit 3 5 5/refused 11/commit 4294967295 0 0/refused 11
-p1 | 1 7 6 1 4 10 2 8 4294967295 | $p1_plan/commit 1 7 6/refused 13/commit 1 4 10/refused 13/commit 2 8 4294967295/refused 13
-p4 | 1 2 5 2 1 2 1 4 5 2 2 2 | record 5 0 0 0 0 0/1 0 0 5/2 0 0 0/3 0 0 0/commit 1 2 5/record 5 0 0 0 1 0/1 1 2 5/2 0 0 2/3 0 0 0/commit 2 1 2/record 5 0 0 0 2 0/1 1 2 5/2 1 1 2/3 0 0 1/commit 1 4 5/record 3 0 0 0 3 0/1 1 4 5/2 1 1 2/3 0 0 1/commit 2 2 2/record 3 0 0 0 4 0/1 1 4 5/2 1 2 2/3 0 0 2
-p7-impossible | 1 10 10 | refused 9
-p8 | 1 0 0 | record 0 0 0 0 0 0/commit 1 0 0/refused 11
+p1 | $p1_run_words | $p1_run
+p1 | 00 01 006 10 0 1 10 10 | $p1_twice
+p1 | 0 1 10 10 0 1 10 10 | $p1_plan/commit 0 1 10 10/record 6 1 0 0 0 0/1 1 10 10/2 0 8 14/commit 0 1 10 10/record 6 2 0 0 0 0/1 1 10 10/2 0 8 14
+p1 | 2 2 9 9 0 1 5 11 2 2 9 9 | $p1_plan/commit 2 2 9 9/record 18 0 0 1 0 0/1 0 5 11/2 1 9 9/commit 0 1 5 11/record 18 1 0 1 0 0/1 1 5 11/2 1 9 9/commit 2 2 9 9/record 18 1 0 2 0 0/1 1 5 11/2 1 9 9
+p1 | 0 0 5 5 2 3 5 5 4 4294967295 0 0 | $p1_plan/commit 0 0 5 5/refused 20/commit 2 3 5 5/refused 20/commit 4 4294967295 0 0/refused 20
+p1 | 2 1 6 10 0 2 9 9 4 1 6 10 1 2 9 9 | $p1_plan/commit 2 1 6 10/refused 20/commit 0 2 9 9/refused 20/commit 4 1 6 10/refused 20/commit 1 2 9 9/refused 20
+p1 | 5 1 6 10 4294967295 0 9 8 0 1 11 11 | $p1_plan/commit 5 1 6 10/refused 19/commit 4294967295 0 9 8/refused 19/commit 0 1 11 11/record 6 1 0 0 0 0/1 1 11 11/2 0 9 15
+p1 | 0 1 7 6 0 1 4 10 2 2 8 4294967295 | $p1_plan/commit 0 1 7 6/refused 13/commit 0 1 4 10/refused 13/commit 2 2 8 4294967295/refused 13
+p4 | 3 1 2 5 3 2 1 2 3 1 4 5 3 2 2 2 | record 5 0 0 0 0 0/1 0 0 5/2 0 0 0/3 0 0 0/commit 3 1 2 5/record 5 0 0 0 1 0/1 1 2 5/2 0 0 2/3 0 0 0/commit 3 2 1 2/record 5 0 0 0 2 0/1 1 2 5/2 1 1 2/3 0 0 1/commit 3 1 4 5/record 3 0 0 0 3 0/1 1 4 5/2 1 1 2/3 0 0 1/commit 3 2 2 2/record 3 0 0 0 4 0/1 1 4 5/2 1 2 2/3 0 0 2
+p7-impossible | 3 1 10 10 | refused 9
+p8 | 4 1 0 0 | record 0 0 0 0 0 0/commit 4 1 0 0/refused 20
 p9 | | refused 1
 RUNS
     # before any commitment it prints the program's plan, but for the totals of the parts
@@ -742,8 +877,31 @@ RUNS
         "$work/commit" <"$ticket" | awk '$1 == "record" { print $2; next } $1 != "refused" { $2 = "" } { print }' | tr -s ' ' >"$work/got"
         same "the plan of $ticket before commitments, with $compiler" "$work/wanted" "$work/got"
     done
-    for words in 1 '1 6' '1 6 10 1' '1 6 10 1 10' 'shutter 6 10' '1 6..10' '1 -6 10' '1 +6 10' '1 6 10x' '1 6 0xa' '1 6 4294967296' '1 6 18446744073709551626' -h; do
-        misused commit '[EVENT OPEN CLOSE]..' "$words"
+    $compiler -std=c99 -Wall -Wextra -Werror -pedantic -Iinclude examples/view.c "$library" -o "$work/view"
+    good $? "examples/view.c with $compiler"
+    while IFS='|' read -r name words wanted; do
+        # shellcheck disable=SC2086
+        "$work/view" $words <"examples/tickets/${name% }.ticket" >"$work/got"
+        status=$?
+        case $wanted in ' refused'*) status=$((status != 1)) ;; esac
+        good $status "views of ${name% }: $words, with $compiler: exit status"
+        printf '%s\n' "${wanted# }" | tr '/' '\n' >"$work/wanted"
+        same "views of ${name% }: $words, with $compiler" "$work/wanted" "$work/got"
+    done <<RUNS
+p1 | | $p1_views
+p1 | 0 1 10 10 2 1 10 10 2 2 9 12 | $p1_views_run
+p1 | 4 1 10 10 5 1 10 10 0 3 5 5 0 1 12 12 | $p1_views/commit 4 1 10 10/refused 20/commit 5 1 10 10/refused 19/commit 0 3 5 5/refused 20/commit 0 1 12 12/refused 13
+p4 | 3 1 2 5 | view 0/view 1/view 2/view 3/1 0 0 5/2 0 0 0/3 0 0 0/view 4/1 0 0 5/2 0 0 0/3 0 0 0/commit 3 1 2 5/view 0/view 1/view 2/view 3/1 1 2 5/2 0 0 2/3 0 0 0/view 4/1 1 2 5/2 0 0 2/3 0 0 0
+p7-impossible | 3 1 10 10 | refused 9
+p8 | | view 0/view 1/view 2/view 3/view 4
+p9 | | refused 1
+session | 4 8 850 850 | $session_views/commit 4 8 850 850/$session_stored
+RUNS
+    for program in commit view; do
+        for words in 0 '0 1' '0 1 6' '1 6 10' '0 1 6 10 0' '0 1 6 10 0 1 10' 'camera 1 6 10' '0 shutter 6 10' '0 1 6..10' '-1 1 6 10' '0 1 -6 10' '0 1 +6 10' '0 1 6 10x' '0 1 6 0xa' \
+            '4294967296 1 6 10' '0 1 6 4294967296' '0 1 6 18446744073709551626' -h; do
+            misused $program '[CALLER EVENT OPEN CLOSE]..' "$words"
+        done
     done
     $compiler -std=c99 -Wall -Wextra -Werror -pedantic -Iinclude examples/reason.c "$library" -o "$work/reason"
     good $? "examples/reason.c with $compiler"
@@ -824,7 +982,7 @@ session | 4 | part 4 0/5 90 90/8 170 170
 PARTS
     for words in '' camera '0 1' -1 +1 1x 0x1 4294967296 18446744073709551616 -h; do misused part 'DEVICE' "$words"; done
 done
-printf '#include "beyunlak.h"\nint main() { return BEYUNLAK_RECORD_MAX == 1958 && BEYUNLAK_DEVICES == 5 && BEYUNLAK_DROPPED_MAX == 514 && BEYUNLAK_PART_MAX == 362 ? 0 : 1; }\n' >"$work/host.cpp"
+printf '#include "beyunlak.h"\nint main() { return BEYUNLAK_RECORD_MAX == 1958 && BEYUNLAK_DEVICES == 5 && BEYUNLAK_DROPPED_MAX == 514 && BEYUNLAK_PART_MAX == 362 && BEYUNLAK_VIEW_MAX == 402 ? 0 : 1; }\n' >"$work/host.cpp"
 g++ -Wall -Wextra -Werror -pedantic -Iinclude "$work/host.cpp" -o "$work/cpp" && "$work/cpp"
 good $? 'beyunlak.h in C++'
 cat >"$work/host.cpp" <<'HOST'
@@ -887,7 +1045,26 @@ HOST
 g++ -Wall -Wextra -Werror -pedantic -Iinclude "$work/host.cpp" "$library" -o "$work/cpp" && "$work/cpp"
 good $? 'beyunlak_part in C++'
 
-# the bytes of a record: plans the ticket on standard input and makes the commitments that the words say
+cat >"$work/host.cpp" <<'HOST'
+#include <cstring>
+#include "beyunlak.h"
+int main() {
+    const uint8_t ticket[] = {9, 0, 0, 0, 2, 0, BEYUNLAK_STAGE, BEYUNLAK_LAMPS, 0, 0};
+    const uint8_t wanted[] = {1, 0, 2, 1, 3, 0, 0, 0, 4, 0, 0, 0};
+    uint8_t plan[BEYUNLAK_RECORD_MAX], next[BEYUNLAK_RECORD_MAX], view[BEYUNLAK_VIEW_MAX];
+    const size_t length = BEYUNLAK_RECORD_LENGTH(2, 0);
+    if (beyunlak_plan(ticket, sizeof ticket, plan, sizeof plan) != BEYUNLAK_ACCEPTED) return 1;
+    if (beyunlak_commit(plan, length, BEYUNLAK_STAGE, 2, 3, 4, next, sizeof next) != BEYUNLAK_NOT_OWN) return 1;
+    if (beyunlak_commit(plan, length, BEYUNLAK_DEVICES, 2, 3, 4, next, sizeof next) != BEYUNLAK_CALLER) return 1;
+    if (beyunlak_commit(plan, length, BEYUNLAK_LAMPS, 2, 3, 4, next, sizeof next) != BEYUNLAK_ACCEPTED) return 1;
+    if (beyunlak_view(next, length, BEYUNLAK_LAMPS, view, sizeof view) != BEYUNLAK_ACCEPTED) return 1;
+    return sizeof wanted != BEYUNLAK_VIEW_LENGTH(1) || std::memcmp(view, wanted, sizeof wanted) ? 1 : 0;
+}
+HOST
+g++ -Wall -Wextra -Werror -pedantic -Iinclude "$work/host.cpp" "$library" -o "$work/cpp" && "$work/cpp"
+good $? 'beyunlak_commit and beyunlak_view in C++'
+
+# the bytes of a record: plans the ticket on standard input and makes the commitments that the words say, each by its owner
 cat >"$work/record.c" <<'HOST'
 #include <stdio.h>
 #include <stdlib.h>
@@ -898,8 +1075,9 @@ int main(int count, char **words) {
     uint32_t answer = beyunlak_plan(in, fread(in, 1, sizeof in, stdin), out, sizeof out);
     size_t length = BEYUNLAK_RECORD_LENGTH(in[4], in[6 + in[4]] + 256 * in[7 + in[4]]);
     for (int i = 1; answer == BEYUNLAK_ACCEPTED && i + 2 < count; i += 3) {
+        const uint32_t event = (uint32_t)atoi(words[i]);
         memcpy(in, out, length);
-        answer = beyunlak_commit(in, length, (uint32_t)atoi(words[i]), (uint32_t)atoi(words[i + 1]), (uint32_t)atoi(words[i + 2]), out, sizeof out);
+        answer = beyunlak_commit(in, length, in[5 + event], event, (uint32_t)atoi(words[i + 1]), (uint32_t)atoi(words[i + 2]), out, sizeof out);
     }
     if (answer == BEYUNLAK_ACCEPTED) fwrite(out, 1, length, stdout);
     return (int)answer;
@@ -907,6 +1085,26 @@ int main(int count, char **words) {
 HOST
 gcc -std=c99 -Wall -Wextra -Werror -pedantic -Iinclude "$work/record.c" "$library" -o "$work/record"
 good $? 'a host that writes records'
+
+# a device's view of the record on standard input, as lines
+cat >"$work/viewer.c" <<'HOST'
+#include <stdio.h>
+#include <stdlib.h>
+#include "beyunlak.h"
+static unsigned get(const uint8_t *at) { return (unsigned)at[0] | (unsigned)at[1] << 8 | (unsigned)at[2] << 16 | (unsigned)at[3] << 24; }
+int main(int count, char **words) {
+    static uint8_t record[BEYUNLAK_RECORD_MAX + 1], view[BEYUNLAK_VIEW_MAX];
+    size_t length = fread(record, 1, sizeof record, stdin);
+    uint32_t answer = beyunlak_view(record, length, (uint32_t)atoi(words[count - 1]), view, sizeof view);
+    for (int k = 0; answer == BEYUNLAK_ACCEPTED && k < view[0]; k++) {
+        const uint8_t *event = view + BEYUNLAK_VIEW_LENGTH(k);
+        printf("%u %u..%u %s\n", event[0], get(event + 2), get(event + 6), event[1] ? "committed" : "free");
+    }
+    return (int)answer;
+}
+HOST
+gcc -std=c99 -Wall -Wextra -Werror -pedantic -Iinclude "$work/viewer.c" "$library" -o "$work/viewer"
+good $? 'a host that shows views'
 
 # written NAME TICKET WORDS LENGTH WANTED: how the record after these commitments is shown: its length, and the lines below the ticket
 written() {
@@ -919,6 +1117,13 @@ written() {
     same "show the record after commitments on $1: $3" "$work/wanted" "$work/got"
     tools/ticket encode "$work/shown" "$work/again"
     same "the ticket of the record after commitments on $1: $3" "$2" "$work/again"
+    # what `show --as` prints of it is what the library shows
+    for device in 0 1 2 3 4; do
+        tools/ticket show "$work/made" --as $device | sed -n 's/^# window e//p' >"$work/got"
+        "$work/viewer" $device <"$work/made" >"$work/wanted"
+        good $? "device $device's view after commitments on $1: $3"
+        same "show --as $device after commitments on $1: $3" "$work/wanted" "$work/got"
+    done
 }
 written P1 examples/tickets/p1.ticket '' 78 "$free_shown$(counted 0 0 0 0 0)"
 written P1 examples/tickets/p1.ticket '1 6 10 1 10 10 2 10 12' 78 "$both_shown$(counted 2 0 1 0 0)"
@@ -945,12 +1150,19 @@ same 'examples/host.c, outputs of 1,957 bytes' "$work/wanted" "$work/got"
 sized host 's/next.BEYUNLAK_RECORD_MAX/next[1957/'
 { head -n 4 examples/host.expected; echo 'event 1 at 6..10 refused: 10, output too short'; } >"$work/wanted"
 same 'examples/host.c, one output of 1,957 bytes' "$work/wanted" "$work/got"
-sized commit 's/BEYUNLAK_RECORD_MAX/1958/' 1 6 10 1 10 10 1 9 9 2 10 12
+# shellcheck disable=SC2086
+sized commit 's/BEYUNLAK_RECORD_MAX/1958/' $p1_run_words
 printf '%s\n' "$p1_run" | tr '/' '\n' >"$work/wanted"
 same 'examples/commit.c, outputs of 1,958 bytes' "$work/wanted" "$work/got"
-sized commit 's/^ *BEYUNLAK_RECORD_MAX/1957/' 2 9 9 1 10 10
-printf '%s\n' "$p1_plan/commit 2 9 9/refused 10/commit 1 10 10/refused 10" | tr '/' '\n' >"$work/wanted"
+sized commit 's/^ *BEYUNLAK_RECORD_MAX/1957/' 2 2 9 9 0 1 10 10 5 1 10 10
+printf '%s\n' "$p1_plan/commit 2 2 9 9/refused 10/commit 0 1 10 10/refused 10/commit 5 1 10 10/refused 10" | tr '/' '\n' >"$work/wanted"
 same 'examples/commit.c, commitments with outputs of 1,957 bytes' "$work/wanted" "$work/got"
+sized view 's/BEYUNLAK_VIEW_MAX/402/'
+printf '%s\n' "$p1_views" | tr '/' '\n' >"$work/wanted"
+same 'examples/view.c, an output of 402 bytes' "$work/wanted" "$work/got"
+sized view 's/BEYUNLAK_VIEW_MAX/401/'
+for device in 0 1 2 3 4; do printf 'view %s\nrefused 10\n' $device; done >"$work/wanted"
+same 'examples/view.c, an output of 401 bytes' "$work/wanted" "$work/got"
 
 for room in 'mended.BEYUNLAK_TICKET_MAX|mended[1584|dropped' 'mended.BEYUNLAK_TICKET_MAX|mended[1583|refused 10' \
     'BEYUNLAK_DROPPED_MAX|514|dropped' 'BEYUNLAK_DROPPED_MAX|513|refused 10'; do
@@ -1137,7 +1349,7 @@ printf '%s\n' "$first_latest" | tr '/' '\n' >"$work/wanted"
 same 'the latest plan of README.md' "$work/wanted" "$work/got"
 first_told='plan: total 450, none accepted/  lamps-on   0..0/  exposure  50..200/exposure commits 100..150: total 200, accepted camera 1/  lamps-on   0..50/  exposure 100..150 committed/exposure commits 120..120: total 70, accepted camera 2/  lamps-on   0..70/  exposure 120..120 committed/lamps-on commits 20..20: total 0, accepted camera 2, lamps 1/  lamps-on  20..20  committed/  exposure 120..120 committed'
 first_by='exposure 10s..15s, exposure 12s..12s, lamps-on 2s..2s'
-p1_by='shutter 6..10, shutter 1s..1s, shutter 9..9, flash 10..12'
+p1_by='shutter 6..10, shutter 1s..1s, shutter 9..9, shutter 10..10 as lamps, flash 10..12'
 makes commit 'no ticket named' "$p1_twice_told" 0
 makes commit 'docs/TEXT-FORM.md' "$p1_run_told" 0 BY="$p1_by"
 makes commit 'README' "$first_told" 0 TICKET="$work/first.txt" BY="$first_by"
@@ -1148,9 +1360,20 @@ makes commit 'the same window' 'plan: total 0, none accepted/  last 10..10/last 
 makes commit 'all refused' "plan: total 0, none accepted/  last 10..10/last commits 9..10: $p1_outside" 0 TICKET=examples/tickets/p7.txt BY='last 9..10'
 makes commit 'P7 refused' 'refused 9: no times keep all rules' 2 TICKET=$p7 BY='last 10..10'
 BY='flash 8..8' makes commit 'BY in the environment' "$p1_twice_told" 0
-for by in 'shuter 6..10' 'shutter 6' 'flash 8..9 flash 8..8' 'shutter 6..10; echo x' "shutter 6..10'" 'shutter "6..10"' "shutter \`echo 6\`..10" '*'; do
-    make -s -o library commit ARCHIVE="$library" BY="$by" >"$work/got" 2>"$work/errors"
-    if [ $? -eq 2 ] && [ ! -s "$work/got" ] && grep -q -F "commitment '$by': " "$work/errors"; then pass; else fail "make commit BY=$by"; fi
+makes commit 'by another device' "plan: total 0, none accepted/  last 10..10/last commits 10..10 as database: $not_own/last commits 10..10: total 0, accepted stage 1/  last 10..10 committed" 0 \
+    TICKET=examples/tickets/p7.txt BY='last 10..10 as database, last 10..10 as stage'
+first_seen='plan/  camera: exposure 50..200/  filter-wheel: no events/  lamps: lamps-on 0..0/  stage: no events/  database: lamps-on 0..0, exposure 50..200/exposure commits 100..150/  camera: exposure 100..150 committed/  filter-wheel: no events/  lamps: lamps-on 0..50/  stage: no events/  database: lamps-on 0..50, exposure 100..150 committed'
+makes view 'docs/TEXT-FORM.md' "$p1_seen_told" 0 BY='shutter 10..10'
+makes view 'README' "$first_seen" 0 TICKET="$work/first.txt" BY='exposure 10s..15s'
+makes view 'README, by another device' "$(echo "$first_seen" | sed 's,/exposure commits.*,,')/exposure commits 100..150 as lamps: $not_own" 0 TICKET="$work/first.txt" BY='exposure 10s..15s as lamps'
+makes view 'P1' "$p1_views_run_told" 0 BY='shutter 10..10, shutter 10..10 as lamps, flash 9..12'
+makes view 'nothing' "$p1_views_told" 0 BY=
+makes view 'P7 refused' 'refused 9: no times keep all rules' 2 TICKET=$p7 BY='last 10..10'
+for target in commit view; do
+    for by in 'shuter 6..10' 'shutter 6' 'flash 8..9 flash 8..8' 'shutter 6..10; echo x' "shutter 6..10'" 'shutter "6..10"' "shutter \`echo 6\`..10" '*' 'flash 9..9 as flash' 'flash 9..9 as 5'; do
+        make -s -o library $target ARCHIVE="$library" BY="$by" >"$work/got" 2>"$work/errors"
+        if [ $? -eq 2 ] && [ ! -s "$work/got" ] && grep -q -F "commitment '$by': " "$work/errors"; then pass; else fail "make $target BY=$by"; fi
+    done
 done
 
 # stands FILE TOLD: what a command prints stands in the document, four spaces in
@@ -1167,9 +1390,12 @@ stands README.md "\$ make -s part TICKET=my.txt DEVICE=camera | tail -n 2/$first
 stands README.md "\$ make -s mend TICKET=my.txt | tail -n 7/$my_mended"
 stands README.md "\$ make -s plan TICKET=mended.txt | tail -n 4/$first_plan"
 stands README.md "\$ make -s commit TICKET=my.txt BY=\"$first_by\" | tail -n 12/$first_told"
+stands README.md "\$ make -s view TICKET=my.txt BY=\"exposure 10s..15s\" | tail -n 12/$first_seen"
 stands README.md "$p1_told"
 stands README.md "$p1_stops_told"
-stands docs/TEXT-FORM.md "\$ make -s commit BY=\"$p1_by\" | tail -n 13/$p1_run_told"
+stands docs/TEXT-FORM.md "\$ make -s commit BY=\"$p1_by\" | tail -n 14/$p1_run_told"
+stands docs/TEXT-FORM.md "\$ make -s view BY=\"shutter 10..10\" | tail -n 12/$p1_seen_told"
+stands docs/TEXT-FORM.md "$lamps_view"
 stands docs/TEXT-FORM.md "$both_shown$(counted 2 0 1 0 0)"
 stands docs/TEXT-FORM.md "$p4_ending"
 stands docs/TEXT-FORM.md "$p6_told"
@@ -1185,7 +1411,7 @@ while read -r verdict name; do
     if [ "$verdict" = ok ]; then pass; else fail "doors: $name"; fi
 done <"$work/got"
 
-for program in host 'doors short' table 'table stops' 'commit 1 6 10 1 10 10 1 9 9 2 10 12' 'record 1 6 10 2 8 8' 'mend /dev/null' 'part 0' 'part 1'; do
+for program in host 'doors short' table 'table stops' "commit $p1_run_words" "view $p1_run_words" 'record 1 6 10 2 8 8' 'mend /dev/null' 'part 0' 'part 1'; do
     # shellcheck disable=SC2086
     valgrind -q --error-exitcode=9 --leak-check=full "$work/"$program <examples/tickets/p1.ticket >/dev/null 2>"$work/errors"
     good $? "$program under valgrind"

@@ -7,7 +7,7 @@ use crate::model::calls::{self, Asked, Loose, LooseRecord};
 use crate::model::finer::{Allowed, Finer, Grid};
 use crate::model::{exhaustive, flags, parts, reading, rings, writing};
 use crate::model::{Commitment, Prefer, Record, Rule, Solver, Ticket, Window};
-use crate::model::{BOTH, DEVICES, MOST_ACCEPTED};
+use crate::model::{BOTH, DATABASE, DEVICES, MOST_ACCEPTED};
 use crate::random::Random;
 use crate::trial::{hex, Lengths, Outputs, Report, Trial, ENOUGH, LEAST};
 
@@ -75,19 +75,29 @@ pub enum Kind {
     Finer,
     /// The same on tiny tickets, expected answers and widest windows by exhaustive search, these where the lists are few.
     FinerTiny,
+    /// Commitments by any caller, and views of each record by all of them.
+    Rights,
+    /// The same on tiny tickets, expected answers by exhaustive search.
+    RightsTiny,
+    /// Commitments by any caller and views, on damaged, cut and extended records, with outputs of other lengths.
+    RightsBytes,
+    /// Pairs of records that are alike for a device and unlike elsewhere: its view and the numbers that it is answered are
+    /// equal.
+    RightsPairs,
 }
 
-/// What the calls of a kind are about: reasons, mending, parts and finer grids have kinds of their own.
+/// What the calls of a kind are about: reasons, mending, parts, finer grids and callers have kinds of their own.
 #[derive(Clone, Copy, Debug, PartialEq, Eq)]
 pub enum Subject {
     Reasons,
     Mending,
     Parts,
     Finer,
+    Rights,
     Others,
 }
 
-pub const KINDS: [Kind; 31] = [
+pub const KINDS: [Kind; 35] = [
     Kind::Tiny,
     Kind::Structures,
     Kind::Runs,
@@ -119,6 +129,10 @@ pub const KINDS: [Kind; 31] = [
     Kind::PartsOneDevice,
     Kind::Finer,
     Kind::FinerTiny,
+    Kind::Rights,
+    Kind::RightsTiny,
+    Kind::RightsBytes,
+    Kind::RightsPairs,
 ];
 
 impl Kind {
@@ -155,6 +169,10 @@ impl Kind {
             Kind::PartsOneDevice => "parts-one-device",
             Kind::Finer => "finer",
             Kind::FinerTiny => "finer-tiny",
+            Kind::Rights => "rights",
+            Kind::RightsTiny => "rights-tiny",
+            Kind::RightsBytes => "rights-bytes",
+            Kind::RightsPairs => "rights-pairs",
         }
     }
 
@@ -169,7 +187,8 @@ impl Kind {
             60..=69 => Kind::FinerTiny,
             70..=84 => Kind::WeightsTiny,
             85..=99 => Kind::PartsTiny,
-            100..=164 => Kind::Structures,
+            100..=154 => Kind::Structures,
+            155..=164 => Kind::Rights,
             165..=174 => Kind::Finer,
             175..=199 => Kind::Weights,
             200..=219 => Kind::Parts,
@@ -177,12 +196,14 @@ impl Kind {
             228..=232 => Kind::PartsOneDevice,
             233..=239 => Kind::PartsBytes,
             240..=279 => Kind::Runs,
-            280..=354 => Kind::Foreign,
+            280..=344 => Kind::Foreign,
+            345..=354 => Kind::RightsPairs,
             355..=379 => Kind::Counts,
             380..=409 => Kind::Narrowing,
             410..=449 => Kind::NarrowingTiny,
             450..=489 => Kind::Stops,
-            490..=549 => Kind::Damaged,
+            490..=534 => Kind::Damaged,
+            535..=549 => Kind::RightsBytes,
             550..=579 => Kind::Mending,
             580..=594 => Kind::MendingTiny,
             595..=609 => Kind::MendingBytes,
@@ -192,7 +213,8 @@ impl Kind {
             640..=666 => Kind::Records,
             667..=669 => Kind::Text,
             670..=779 => Kind::Latest,
-            780..=829 => Kind::LatestTiny,
+            780..=814 => Kind::LatestTiny,
+            815..=829 => Kind::RightsTiny,
             830..=909 => Kind::Reason,
             910..=949 => Kind::ReasonTiny,
             _ => Kind::ReasonLists,
@@ -207,6 +229,7 @@ impl Kind {
                 Subject::Parts
             }
             Kind::Finer | Kind::FinerTiny => Subject::Finer,
+            Kind::Rights | Kind::RightsTiny | Kind::RightsBytes | Kind::RightsPairs => Subject::Rights,
             _ => Subject::Others,
         }
     }
@@ -214,23 +237,26 @@ impl Kind {
     /// The numbers that the quick part has to reach in calls of this kind, beside those of all kinds together.
     pub fn numbers(self) -> &'static [usize] {
         match self {
-            Kind::Foreign => &[0, 10, 11, 13, 15, 18],
+            Kind::Foreign => &[0, 10, 13, 15, 18, 19, 20],
             Kind::Values => &[0, 2, 3, 4, 5, 6, 7, 9, 10],
             Kind::Records => &[0, 2, 3, 4, 5, 6, 7, 10, 14],
             Kind::Text => &[0, 1, 2, 3, 4, 5, 6, 7, 8, 9],
-            Kind::Latest => &[0, 1, 2, 3, 4, 5, 6, 7, 8, 9, 10, 11, 13],
+            Kind::Latest => &[0, 1, 2, 3, 4, 5, 6, 7, 8, 9, 10, 13, 19, 20],
             Kind::Reason | Kind::ReasonLists => &[0, 1, 2, 3, 4, 5, 6, 7, 8, 10, 16, 17],
             Kind::ReasonTiny => &[0, 17],
             Kind::Stops => &[0, 1, 2, 3, 4, 5, 6, 7, 8, 9, 10],
-            Kind::Narrowing | Kind::NarrowingTiny => &[0, 10, 11, 13, 18],
-            Kind::Counts => &[0, 1, 8, 10, 11, 13, 14, 15, 18],
+            Kind::Narrowing | Kind::NarrowingTiny => &[0, 10, 13, 18, 19, 20],
+            Kind::Counts => &[0, 1, 8, 10, 13, 14, 15, 18, 19, 20],
             Kind::Mending => &[0, 10],
             Kind::MendingTiny => &[0],
             Kind::MendingBytes => &[0, 1, 2, 3, 4, 5, 6, 7, 8, 10],
-            Kind::Weights | Kind::WeightsTiny => &[0, 9, 10, 11, 13],
+            Kind::Weights | Kind::WeightsTiny => &[0, 9, 10, 13, 19, 20],
             Kind::Parts | Kind::PartsBytes => &[0, 1, 2, 3, 4, 5, 6, 7, 8, 9, 10],
             Kind::PartsTiny | Kind::PartsSeparate | Kind::PartsOneDevice => &[0, 4, 9, 10],
             Kind::Finer | Kind::FinerTiny => &[0, 9, 18],
+            Kind::Rights | Kind::RightsTiny => &[0, 9, 10, 13, 15, 18, 19, 20],
+            Kind::RightsBytes => &[0, 1, 2, 3, 4, 5, 6, 7, 8, 10, 13, 14, 15, 18, 19, 20],
+            Kind::RightsPairs => &[0, 13, 18, 20],
             _ => &[],
         }
     }
@@ -277,6 +303,10 @@ pub fn run_on(grid: &dyn Grid, kind: Kind, seed: u64, library: &dyn Library) -> 
         Kind::PartsOneDevice => parts_one_device(&mut trial, seed),
         Kind::Finer => finer(&mut trial),
         Kind::FinerTiny => finer_tiny(&mut trial),
+        Kind::Rights => rights(&mut trial, seed),
+        Kind::RightsTiny => rights_tiny(&mut trial),
+        Kind::RightsBytes => rights_bytes(&mut trial, seed),
+        Kind::RightsPairs => rights_pairs(&mut trial, seed),
     }
     trial.report
 }
@@ -314,7 +344,8 @@ const AGAIN: usize = 25;
 
 /// Commits on a record until `most` commitments are tried or every event is committed to a single tick; `refused` percent of
 /// the calls bring a commitment with something wrong or too little memory, `again` percent of the others narrow a committed
-/// window. After each that is accepted the counts are the start's and the acceptances of each device.
+/// window. After each that is accepted the counts are the start's and the acceptances of each device. The start and each
+/// record after it is viewed by a drawn caller.
 fn commit_on(trial: &mut Trial, start: Vec<u8>, most: usize, refused: usize, again: usize) {
     let Ok(mut record) = reading::record(&start) else {
         trial.report.differences.push("an unreadable record was written".to_string());
@@ -323,7 +354,8 @@ fn commit_on(trial: &mut Trial, start: Vec<u8>, most: usize, refused: usize, aga
     let mut bytes = start;
     let mut counts = record.counts;
     // What each window was before its event last narrowed it; at first the whole session.
-    let mut earlier = vec![Window { open: 0, close: record.ticket.horizon }; record.windows.len()];
+    let mut earlier = vec![whole_session(&record); record.windows.len()];
+    view_by_any(trial, &bytes);
     for _ in 0..most {
         let wrong = trial.random.chance(refused);
         let commitment = if wrong {
@@ -331,6 +363,7 @@ fn commit_on(trial: &mut Trial, start: Vec<u8>, most: usize, refused: usize, aga
         } else {
             generate::commitment(&record, again, &mut trial.random)
         };
+        let commitment = generate::called(commitment, &record, &mut trial.random);
         let lengths = if wrong { some_lengths(&mut trial.random) } else { ENOUGH };
         if let Some(after) = trial.commit(&bytes, commitment, lengths) {
             let Some(next) = trial.follows(&record, commitment, &after) else { return };
@@ -342,6 +375,7 @@ fn commit_on(trial: &mut Trial, start: Vec<u8>, most: usize, refused: usize, aga
             }
             record = next;
             bytes = after;
+            view_by_any(trial, &bytes);
         }
         let ticks = record.windows.iter().map(|window| window.open == window.close);
         let settled = ticks.zip(&record.committed).all(|(is_tick, &committed)| is_tick && committed);
@@ -349,6 +383,18 @@ fn commit_on(trial: &mut Trial, start: Vec<u8>, most: usize, refused: usize, aga
             return;
         }
     }
+}
+
+fn whole_session(record: &Record) -> Window {
+    Window { open: 0, close: record.ticket.horizon }
+}
+
+/// A view of these bytes by a drawn caller, three times in four with the least output.
+fn view_by_any(trial: &mut Trial, record: &[u8]) {
+    let device = trial.random.below(DEVICES) as u32;
+    let caller = if trial.random.chance(75) { device } else { generate::some_caller(device, &mut trial.random) };
+    let length = if trial.random.chance(75) { calls::VIEW } else { some_length(calls::VIEW, &mut trial.random) };
+    trial.view(record, caller, length);
 }
 
 fn tiny(trial: &mut Trial) {
@@ -416,21 +462,29 @@ fn damaged(trial: &mut Trial) {
         let prefer = trial.random.pick(&BOTH);
         trial.plan(prefer, &bytes, ENOUGH);
         let bytes = generate::damaged_record(&record, &mut trial.random);
-        let commitment = generate::commitment(&record, AGAIN, &mut trial.random);
+        let commitment = drawn_commitment(&record, &mut trial.random);
         trial.rewrite_record(&bytes, calls::RECORD);
         trial.commit(&bytes, commitment, ENOUGH);
+        view_by_any(trial, &bytes);
     }
     // A record is no ticket, and a ticket no record.
     for prefer in BOTH {
         trial.plan(prefer, &record_bytes, ENOUGH);
     }
-    trial.commit(&ticket, Commitment { event: 1, open: 0, close: 0 }, ENOUGH);
+    trial.commit(&ticket, Commitment { caller: 0, event: 1, open: 0, close: 0 }, ENOUGH);
+    trial.view(&ticket, 0, calls::VIEW);
+}
+
+/// A commitment that may be accepted, called by the event's owner as a rule.
+fn drawn_commitment(record: &Record, random: &mut Random) -> Commitment {
+    let commitment = generate::commitment(record, AGAIN, random);
+    generate::called(commitment, record, random)
 }
 
 fn prefixes(trial: &mut Trial) {
     let (mut ticket, record) = ticket_and_record(&mut trial.random);
     let mut bytes = writing::record(&record);
-    let commitment = generate::commitment(&record, AGAIN, &mut trial.random);
+    let commitment = drawn_commitment(&record, &mut trial.random);
     ticket.push(trial.random.next() as u8);
     bytes.push(trial.random.next() as u8);
     let steps = 1 + ticket.len() / 200;
@@ -445,13 +499,14 @@ fn prefixes(trial: &mut Trial) {
     for length in (0..=bytes.len()).rev().filter(met) {
         trial.rewrite_record(&bytes[..length], calls::RECORD);
         trial.commit(&bytes[..length], commitment, ENOUGH);
+        trial.view(&bytes[..length], commitment.caller, calls::VIEW);
     }
 }
 
 fn lengths(trial: &mut Trial) {
     let (ticket, record) = ticket_and_record(&mut trial.random);
     let bytes = writing::record(&record);
-    let commitment = generate::commitment(&record, AGAIN, &mut trial.random);
+    let commitment = drawn_commitment(&record, &mut trial.random);
     let around = |limit: usize| limit - 3..=limit + 3;
     for out in around(calls::RECORD) {
         for scratch in around(calls::SCRATCH) {
@@ -464,6 +519,11 @@ fn lengths(trial: &mut Trial) {
     }
     for out in around(calls::TICKET) {
         trial.rewrite_ticket(&ticket, out);
+    }
+    for out in around(calls::VIEW) {
+        for caller in 0..=DEVICES as u32 {
+            trial.view(&bytes, caller, out);
+        }
     }
     for out in around(calls::TABLE) {
         let Record { ticket: read, .. } = &record;
@@ -483,6 +543,8 @@ fn lengths(trial: &mut Trial) {
         }
         trial.rewrite_record(&bytes, out);
         trial.rewrite_ticket(&ticket, out);
+        trial.view(&bytes, commitment.caller, out);
+        trial.view(&[], commitment.caller, out);
     }
 }
 
@@ -616,15 +678,17 @@ fn counts(trial: &mut Trial, seed: u64) {
     trial.rewrite_record(&bytes, calls::RECORD);
     for k in 0..record.windows.len() {
         let commitment = generate::commitment_at(&record, k, &mut trial.random);
+        let commitment = generate::called(commitment, &record, &mut trial.random);
         if let Some(after) = trial.commit(&bytes, commitment, ENOUGH) {
             trial.follows(&record, commitment, &after);
         }
     }
     for _ in 0..4 {
         let damaged = generate::damaged_counts(&record, &mut trial.random);
-        let commitment = generate::commitment(&record, AGAIN, &mut trial.random);
+        let commitment = drawn_commitment(&record, &mut trial.random);
         trial.rewrite_record(&damaged, calls::RECORD);
         trial.commit(&damaged, commitment, ENOUGH);
+        view_by_any(trial, &damaged);
     }
     commit_on(trial, bytes, 12, 20, 50);
 }
@@ -908,13 +972,169 @@ fn refine_commitments(trial: &mut Trial, start: Vec<u8>) {
         if record.windows.is_empty() {
             return;
         }
-        let commitment = generate::commitment(&record, AGAIN, &mut trial.random);
+        let commitment = drawn_commitment(&record, &mut trial.random);
         let after = trial.commit(&bytes, commitment, ENOUGH);
         trial.wins_nothing(Allowed::After(&record, commitment), Prefer::Earliest);
         let Some(after) = after else { continue };
         trial.follows(&record, commitment, &after);
         bytes = after;
     }
+}
+
+/// A ticket of one of the ten structures, in half of the cases shared out among some devices.
+fn rights(trial: &mut Trial, seed: u64) {
+    let random = &mut trial.random;
+    let (n, horizon) = generate::size(random);
+    let mut ticket = generate::ticket(STRUCTURES[seed as usize % STRUCTURES.len()], n, horizon, random);
+    if random.chance(50) {
+        ticket = generate::owned_by(random.pick(&DEVICE_SETS), ticket, random);
+    }
+    call_on_both(trial, ticket);
+}
+
+fn rights_tiny(trial: &mut Trial) {
+    trial.solver = Solver::Exhaustive;
+    let ticket = generate::tiny(&mut trial.random);
+    call_on_both(trial, ticket);
+}
+
+/// Calls on the plan of a ticket, or its latest one, and on a record of it from elsewhere, which need not be fit.
+fn call_on_both(trial: &mut Trial, ticket: Ticket) {
+    let prefer = trial.random.pick(&BOTH);
+    if let Some(record) = trial.plan(prefer, &writing::ticket(&ticket), ENOUGH) {
+        call_on(trial, record, 8);
+    }
+    let record = generate::foreign_record(ticket, &mut trial.random);
+    call_on(trial, writing::record(&record), 4);
+}
+
+/// This many commitments by any caller, one after the other; the start and each record after it viewed by all.
+fn call_on(trial: &mut Trial, start: Vec<u8>, count: usize) {
+    let Ok(mut record) = reading::record(&start) else {
+        trial.report.differences.push("an unreadable record was written".to_string());
+        return;
+    };
+    let mut bytes = start;
+    view_by_all(trial, &bytes);
+    for _ in 0..count {
+        let commitment = any_commitment(&record, &mut trial.random);
+        let lengths = if trial.random.chance(80) { ENOUGH } else { some_lengths(&mut trial.random) };
+        let Some(after) = trial.commit(&bytes, commitment, lengths) else { continue };
+        let Some(next) = trial.follows(&record, commitment, &after) else { return };
+        (record, bytes) = (next, after);
+        view_by_all(trial, &bytes);
+    }
+}
+
+/// A commitment, three in ten times with something wrong beside its caller; this is the event's owner every other time, and
+/// else any number.
+fn any_commitment(record: &Record, random: &mut Random) -> Commitment {
+    let commitment = if random.chance(70) {
+        generate::commitment(record, AGAIN, random)
+    } else {
+        generate::refused_commitment(record, &vec![whole_session(record); record.windows.len()], random)
+    };
+    if random.chance(50) {
+        commitment
+    } else {
+        Commitment { caller: generate::some_caller(commitment.caller, random), ..commitment }
+    }
+}
+
+/// Views of these bytes by the five devices and by 5, and what the bytes say of them; then one by any number, with an output
+/// of any length.
+fn view_by_all(trial: &mut Trial, record: &[u8]) {
+    let views: Vec<Vec<u8>> =
+        (0..=DEVICES as u32).filter_map(|caller| trial.view(record, caller, calls::VIEW)).collect();
+    if views.len() == DEVICES {
+        trial.are_views(record, &views);
+    }
+    let device = trial.random.below(DEVICES) as u32;
+    let caller = generate::some_caller(device, &mut trial.random);
+    let length = some_length(calls::VIEW, &mut trial.random);
+    trial.view(record, caller, length);
+}
+
+/// A record of up to 6 events, fit or not, with a full count in some cases: as it is, damaged, cut and extended, each with
+/// commitments by any caller and with views, every other time with enough memory.
+fn rights_bytes(trial: &mut Trial, seed: u64) {
+    let random = &mut trial.random;
+    let (n, (_, horizon)) = (random.below(7), generate::size(random));
+    let ticket = generate::ticket(STRUCTURES[seed as usize % STRUCTURES.len()], n, horizon, random);
+    let mut record = generate::foreign_record(ticket, random);
+    if random.chance(40) {
+        record.counts = generate::one_high(&record, MOST_ACCEPTED, random);
+    }
+    let bytes = writing::record(&record);
+    for _ in 0..3 {
+        let random = &mut trial.random;
+        let damaged = generate::damaged_record(&record, random);
+        let cut = bytes[..random.below(bytes.len() + 1)].to_vec();
+        let more = random.pick(&[1, 2, 9, 402, 2_000]);
+        let extended = [&bytes[..], &vec![random.next() as u8; more]].concat();
+        for bytes in [&bytes, &damaged, &cut, &extended] {
+            let random = &mut trial.random;
+            let commitment = any_commitment(&record, random);
+            let lengths = if random.chance(50) { ENOUGH } else { some_lengths(random) };
+            trial.commit(bytes, commitment, lengths);
+            trial.view(bytes, commitment.caller, calls::VIEW);
+            view_by_any(trial, bytes);
+        }
+    }
+}
+
+/// A record with fit windows, of a run or from elsewhere, and another one that is alike for one of the devices that do not see
+/// all: its view, and the numbers of its commitments to events of its own, of others and none, inside and outside of windows
+/// of either record.
+fn rights_pairs(trial: &mut Trial, seed: u64) {
+    let device = (seed % DATABASE as u64) as u8;
+    let random = &mut trial.random;
+    let (n, horizon) = generate::size(random);
+    let ticket = generate::ticket(random.pick(&STRUCTURES), n, horizon, random);
+    let others = [device, random.below(DEVICES) as u8, random.below(DEVICES) as u8];
+    let ticket = if random.chance(50) { generate::owned_by(&others, ticket, random) } else { ticket };
+    let Some(mut first) = fit_record(trial, ticket) else { return };
+    let random = &mut trial.random;
+    if random.chance(30) {
+        first.counts[device as usize] = MOST_ACCEPTED;
+    }
+    let second = generate::alike(&first, device, random);
+    let bytes = [&first, &second].map(writing::record);
+    let pair = [&bytes[0][..], &bytes[1]];
+    trial.expect(pair[0] != pair[1], "a pair is of two records", || hex(pair[0]));
+    trial.are_viewed_alike(pair, device as u32);
+    let own: Vec<usize> = (0..first.windows.len()).filter(|&k| first.ticket.owners[k] == device).collect();
+    for count in 0..6 {
+        let random = &mut trial.random;
+        let of = random.pick(&[&first, &second]);
+        let session = vec![whole_session(of); of.windows.len()];
+        let drawn = match count {
+            0 if !own.is_empty() => generate::commitment_at(of, random.pick(&own), random),
+            1 if !own.is_empty() => generate::refused_at(of, &session, random.pick(&own), random),
+            2..=3 => generate::refused_commitment(of, &session, random),
+            _ => generate::commitment(of, AGAIN, random),
+        };
+        trial.are_answered_alike(pair, Commitment { caller: device as u32, ..drawn });
+    }
+}
+
+/// A record of this ticket with fit windows: a plan with up to 3 commitments, or one from elsewhere. None without a schedule.
+fn fit_record(trial: &mut Trial, ticket: Ticket) -> Option<Record> {
+    if trial.random.chance(50) {
+        let windows = generate::fit_windows(&ticket, &mut trial.random)?;
+        return Some(generate::flagged(ticket, windows, &mut trial.random));
+    }
+    let prefer = trial.random.pick(&BOTH);
+    let mut bytes = trial.plan(prefer, &writing::ticket(&ticket), ENOUGH)?;
+    let mut record = reading::record(&bytes).ok()?;
+    for _ in 0..trial.random.below(4) {
+        let commitment = generate::commitment(&record, AGAIN, &mut trial.random);
+        if let Some(after) = trial.commit(&bytes, commitment, ENOUGH) {
+            record = trial.follows(&record, commitment, &after)?;
+            bytes = after;
+        }
+    }
+    Some(record)
 }
 
 /// What a ticket is made of, not all of it in range.

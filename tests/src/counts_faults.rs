@@ -226,6 +226,7 @@ fn raised(fault: CountsFault, former: &Record, place: usize) -> Option<[u32; DEV
 
 /// The commitment as if each count had room, and then the counts that the fault makes of it.
 pub fn committed(fault: CountsFault, bytes: &[u8], commitment: Commitment) -> Outcome {
+    reading::caller_in_range(commitment.caller)?;
     let former = read(fault, bytes)?;
     let roomy = Record { counts: [MOST_ACCEPTED - 1; DEVICES], ..former.clone() };
     let (record, total) = library::committed(&writing::record(&roomy), commitment)?;

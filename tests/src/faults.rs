@@ -11,6 +11,7 @@ use crate::model::{
 use crate::narrowing_faults::{self, NarrowingFault};
 use crate::parts_faults::{self, LineFault, PartFault};
 use crate::reason_faults::{self, ReasonFault};
+use crate::rights_faults::{self, CallFault, ViewFault};
 use crate::scratch_faults::{self, Call, ScratchFault};
 use crate::stop_faults::{self, StopFault};
 use crate::weight_faults::{self, WeightFault};
@@ -99,9 +100,14 @@ pub enum Fault {
     Line(LineFault),
     /// A fault of what a call makes of the lent scratch.
     Scratch(ScratchFault, Call),
+    /// A fault of a commitment's caller.
+    Calls(CallFault),
+    /// A fault of a view.
+    Views(ViewFault),
 }
 
-/// All faults but those of reasons, of stops, of narrowing again, of counts, of mending, of weights, of parts and of scratch.
+/// All faults but those of reasons, of stops, of narrowing again, of counts, of mending, of weights, of parts, of scratch, of
+/// callers and of views.
 pub const FAULTS: [Fault; 32] = [
     Fault::RefusesAll,
     Fault::OnePlan,
@@ -145,6 +151,42 @@ pub const GIVING_LESS: [Fault; 5] = [
     Fault::Weights(WeightFault::CommitsOfOne),
     Fault::NoWidening,
     Fault::RefusesZeroRing,
+];
+
+/// Faults by which a device is told of others: of their events' number, owners, windows and flags, of their counts, of the
+/// horizon or of the rules.
+pub const TELLING: [Fault; 31] = [
+    Fault::Counts(CountsFault::FullAny),
+    Fault::Counts(CountsFault::FullSum),
+    Fault::Calls(CallFault::Ignored),
+    Fault::Calls(CallFault::AnyDevice),
+    Fault::Calls(CallFault::IgnoredByDoor),
+    Fault::Calls(CallFault::CameraAll),
+    Fault::Calls(CallFault::DatabasesByAll),
+    Fault::Calls(CallFault::CommittedByAll),
+    Fault::Calls(CallFault::SameByAll),
+    Fault::Calls(CallFault::NextOwner),
+    Fault::Calls(CallFault::TwentyAfterInside),
+    Fault::Calls(CallFault::TwentyLast),
+    Fault::Calls(CallFault::ElevenForNone),
+    Fault::Calls(CallFault::ElevenForAnothers),
+    Fault::Calls(CallFault::ThirteenForAnothers),
+    Fault::Calls(CallFault::FullNext),
+    Fault::Calls(CallFault::FullFirst),
+    Fault::Calls(CallFault::HorizonOutside),
+    Fault::Calls(CallFault::MetOutside),
+    Fault::Views(ViewFault::AllForAll),
+    Fault::Views(ViewFault::DatabasesForAll),
+    Fault::Views(ViewFault::NextDevice),
+    Fault::Views(ViewFault::FromOne),
+    Fault::Views(ViewFault::OneMore),
+    Fault::Views(ViewFault::AnothersWindow),
+    Fault::Views(ViewFault::AnothersFlag),
+    Fault::Views(ViewFault::FirstFlags),
+    Fault::Views(ViewFault::Afresh),
+    Fault::Views(ViewFault::CountOfAll),
+    Fault::Views(ViewFault::ByAnothersCount),
+    Fault::Views(ViewFault::ByHorizon),
 ];
 
 pub struct Faulty {
@@ -405,7 +447,10 @@ impl Library for Faulty {
     }
 
     fn commit_door(&self, record: &[u8], commitment: Commitment, out: &mut [u8]) -> u32 {
-        self.delivered(|| self.committed(record, commitment), out, &mut vec![0; calls::SCRATCH]).number
+        match self.fault {
+            Fault::Calls(fault) => rights_faults::commit_door(fault, record, commitment, out),
+            _ => self.delivered(|| self.committed(record, commitment), out, &mut vec![0; calls::SCRATCH]).number,
+        }
     }
 
     fn plan(&self, prefer: Prefer, ticket: &[u8], out: &mut [u8], scratch: &mut [u32]) -> Answer {
@@ -428,6 +473,7 @@ impl Library for Faulty {
             Fault::Scratch(fault, Call::Commit) => {
                 scratch_faults::deliver(fault, || self.committed(record, commitment), out, scratch)
             }
+            Fault::Calls(fault) => rights_faults::commit(fault, record, commitment, out, scratch),
             _ => self.delivered(|| self.committed(record, commitment), out, scratch),
         };
         match self.fault {
@@ -515,6 +561,13 @@ impl Library for Faulty {
         match self.fault {
             Fault::Parts(fault) => parts_faults::part(fault, ticket, device, out),
             _ => Model.part(ticket, device, out),
+        }
+    }
+
+    fn view(&self, record: &[u8], caller: u32, out: &mut [u8]) -> u32 {
+        match self.fault {
+            Fault::Views(fault) => rights_faults::view(fault, record, caller, out),
+            _ => Model.view(record, caller, out),
         }
     }
 

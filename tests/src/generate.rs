@@ -1,6 +1,8 @@
-//! Tickets of several structures and sizes, windows and commitments on them, damaged bytes.
+//! Tickets of several structures and sizes, windows and commitments on them, records that are alike for a device, damaged
+//! bytes.
 
-use crate::model::{distances, flags, writing, Commitment, Record, Rule, Ticket, Window, DEVICES, MOST_ACCEPTED};
+use crate::model::{distances, flags, writing, Commitment, Record, Rule, Ticket, Window};
+use crate::model::{DATABASE, DEVICES, MOST_ACCEPTED};
 use crate::random::Random;
 
 #[derive(Clone, Copy, Debug, PartialEq, Eq)]
@@ -427,8 +429,8 @@ pub fn one_high(record: &Record, high: u32, random: &mut Random) -> [u32; DEVICE
     counts
 }
 
-/// A commitment that may be accepted: an event and a window inside its own. `again` percent of them are to a committed event
-/// with more than one tick, if there is one; most others to a free one, if there is one.
+/// A commitment that may be accepted: an event, called by its owner, and a window inside its own. `again` percent of them are
+/// to a committed event with more than one tick, if there is one; most others to a free one, if there is one.
 pub fn commitment(record: &Record, again: usize, random: &mut Random) -> Commitment {
     let events = 0..record.windows.len();
     if events.is_empty() {
@@ -445,10 +447,28 @@ pub fn commitment(record: &Record, again: usize, random: &mut Random) -> Commitm
     commitment_at(record, k, random)
 }
 
-/// A commitment of the event at this place to a window inside its own.
+/// A commitment of the event at this place, called by its owner, to a window inside its own.
 pub fn commitment_at(record: &Record, k: usize, random: &mut Random) -> Commitment {
     let Window { open, close } = inside(record.windows[k], random);
-    Commitment { event: k as u32 + 1, open, close }
+    Commitment { caller: record.ticket.owners[k] as u32, event: k as u32 + 1, open, close }
+}
+
+/// The commitment called by its event's owner, where there is no such event by any device, but one time in ten by any number.
+pub fn called(commitment: Commitment, record: &Record, random: &mut Random) -> Commitment {
+    let owner = record.owner(commitment.event).unwrap_or_else(|| random.below(DEVICES) as u32);
+    let caller = if random.chance(90) { owner } else { some_caller(owner, random) };
+    Commitment { caller, ..commitment }
+}
+
+/// A number for a caller: any device, the database, or a number above 4, also one that this device is the rest of.
+pub fn some_caller(device: u32, random: &mut Random) -> u32 {
+    match random.below(8) {
+        0..=3 => random.below(DEVICES) as u32,
+        4 => DATABASE as u32,
+        5 => 5,
+        6 => device + random.pick(&[5, 10, 256, 65_536, 0x0100_0000, 0x8000_0000]),
+        _ => random.pick(&[6, 40, 255, 65_535, 0x7fff_ffff, u32::MAX]),
+    }
 }
 
 /// A window inside this one: the same, a single tick, one end moved by up to a quarter, or any.
@@ -467,20 +487,25 @@ fn inside(window: Window, random: &mut Random) -> Window {
     Window { open: a.min(b) as u32, close: a.max(b) as u32 }
 }
 
-/// A commitment to an event that a record of n events does not have.
+/// A commitment to an event that a record of n events does not have, called by the camera.
 fn no_event(n: u32, random: &mut Random) -> Commitment {
     let event = random.pick(&[0, n + 1, n + 2, 255, 256, 65_536, u32::MAX]);
-    Commitment { event, open: random.pick(&[0, 1, u32::MAX]), close: random.pick(&[0, 1, u32::MAX]) }
+    Commitment { caller: 0, event, open: random.pick(&[0, 1, u32::MAX]), close: random.pick(&[0, 1, u32::MAX]) }
 }
 
-/// A commitment with something wrong: event, open or close. `earlier` are wider windows that a committed event must not get
-/// back.
+/// A commitment with something wrong: event, open or close; its caller is the owner, if there is one. `earlier` are wider
+/// windows that a committed event must not get back.
 pub fn refused_commitment(record: &Record, earlier: &[Window], random: &mut Random) -> Commitment {
     let n = record.windows.len() as u32;
     if n == 0 || random.chance(30) {
         return no_event(n, random);
     }
     let k = random.below(n as usize);
+    refused_at(record, earlier, k, random)
+}
+
+/// A commitment of the event at this place, called by its owner, with something wrong in most cases: open or close.
+pub fn refused_at(record: &Record, earlier: &[Window], k: usize, random: &mut Random) -> Commitment {
     let Window { open, close } = record.windows[k];
     let (open, close) = match random.below(9) {
         0 => (open.wrapping_sub(1), close),
@@ -493,7 +518,77 @@ pub fn refused_commitment(record: &Record, earlier: &[Window], random: &mut Rand
         7 => (open, earlier[k].close),
         _ => (random.next() as u32, random.next() as u32),
     };
-    Commitment { event: k as u32 + 1, open, close }
+    Commitment { caller: record.ticket.owners[k] as u32, event: k as u32 + 1, open, close }
+}
+
+/// A record with fit windows that is another one and alike for this device: its events have the same numbers, windows and
+/// flags, and its count is the same.
+pub fn alike(record: &Record, device: u8, random: &mut Random) -> Record {
+    loop {
+        let other = drawn_alike(record, device, random);
+        if other != *record {
+            return other;
+        }
+    }
+}
+
+/// The other events keep owner and flag, and have windows inside their own, or have any; after the device's last there may be
+/// fewer or more of them. The horizon may be as early as the device's last close.
+fn drawn_alike(record: &Record, device: u8, random: &mut Random) -> Record {
+    let owns = |k: usize| record.ticket.owners.get(k) == Some(&device);
+    let former = record.windows.len();
+    let least = (0..former).rev().find(|&k| owns(k)).map_or(0, |k| k + 1);
+    let n = if random.chance(40) { former } else { random.between(least as i64, 40) as usize };
+    let latest = (0..former).filter(|&k| owns(k)).map(|k| record.windows[k].close).max().unwrap_or(0);
+    let any = random.between(latest as i64, FARTHEST) as u32;
+    let horizon = random.pick(&[record.ticket.horizon, record.ticket.horizon, latest, any]);
+    let other = |random: &mut Random| (device + 1 + random.below(DEVICES - 1) as u8) % DEVICES as u8;
+    let kept = random.pick(&[0, 50, 90]);
+    let (mut owners, mut committed, mut windows) = (Vec::new(), Vec::new(), Vec::new());
+    for k in 0..n {
+        let known = k < former && record.windows[k].close <= horizon && random.chance(kept);
+        let (owner, flag, window) = match known {
+            _ if owns(k) => (device, record.committed[k], record.windows[k]),
+            true => {
+                let owner = if random.chance(50) { record.ticket.owners[k] } else { other(random) };
+                (owner, record.committed[k] ^ random.chance(30), inside(record.windows[k], random))
+            }
+            false => {
+                let (a, b) = (random.between(0, horizon as i64) as u32, random.between(0, horizon as i64) as u32);
+                (other(random), random.chance(30), Window { open: a.min(b), close: a.max(b) })
+            }
+        };
+        owners.push(owner);
+        committed.push(flag);
+        windows.push(window);
+    }
+    let rules = kept_rules(&record.ticket.rules, &windows, random);
+    let mut counts = flags(&owners, &committed).map(|set| count(set, random));
+    counts[device as usize] = record.counts[device as usize];
+    Record { ticket: Ticket { horizon, owners, rules }, committed, windows, counts }
+}
+
+/// Rules that every choice of ticks in the windows keeps: most of these, loosened where the windows break them, and others.
+fn kept_rules(rules: &[Rule], windows: &[Window], random: &mut Random) -> Vec<Rule> {
+    let n = windows.len();
+    let least = |from: usize, to: usize| {
+        let open = if from == 0 { 0 } else { windows[from - 1].open as i64 };
+        let close = if to == 0 { 0 } else { windows[to - 1].close as i64 };
+        close - open
+    };
+    let mut list = Rules { list: Vec::new() };
+    for rule in rules.iter().filter(|rule| rule.from as usize <= n && rule.to as usize <= n) {
+        let (from, to) = (rule.from as usize, rule.to as usize);
+        if random.chance(80) {
+            list.at_most(from, to, least(from, to).max(rule.bound as i64));
+        }
+    }
+    for _ in 0..random.pick(&[0, 2, n, MOST_RULES]) {
+        let (from, to) = (random.below(n + 1), random.below(n + 1));
+        let room = random.pick(&[0, 0, 1, 1_000]);
+        list.at_most(from, to, least(from, to) + random.between(0, room));
+    }
+    list.list
 }
 
 /// A record's bytes damaged; one in five times in its counts alone.

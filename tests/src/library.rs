@@ -35,6 +35,9 @@ pub trait Library: Sync {
     /// The C door of a device's part.
     fn part(&self, ticket: &[u8], device: u32, out: &mut [u8]) -> u32;
 
+    /// The C door of a caller's view.
+    fn view(&self, record: &[u8], caller: u32, out: &mut [u8]) -> u32;
+
     /// What the program prints for these bytes, with the word `latest` where that is preferred.
     fn printed(&self, prefer: Prefer, ticket: &[u8]) -> String;
 }
@@ -101,6 +104,10 @@ impl Library for Model {
 
     fn part(&self, ticket: &[u8], device: u32, out: &mut [u8]) -> u32 {
         calls::hand_out_part(|| calls::part(ticket, device, Solver::Flow), out).0
+    }
+
+    fn view(&self, record: &[u8], caller: u32, out: &mut [u8]) -> u32 {
+        calls::hand_out_view(|| calls::view(record, caller, Solver::Flow), out).0
     }
 
     fn printed(&self, prefer: Prefer, ticket: &[u8]) -> String {

@@ -20,6 +20,7 @@ extern "C" {
     fn beyunlak_commit(
         record: *const u8,
         record_len: usize,
+        caller: u32,
         event: u32,
         open: u32,
         close: u32,
@@ -55,6 +56,7 @@ extern "C" {
         dropped_len: usize,
     ) -> u32;
     fn beyunlak_part(ticket: *const u8, ticket_len: usize, device: u32, out: *mut u8, out_len: usize) -> u32;
+    fn beyunlak_view(record: *const u8, record_len: usize, caller: u32, out: *mut u8, out_len: usize) -> u32;
     fn harness_plan(
         ticket: *const u8,
         ticket_len: usize,
@@ -78,6 +80,7 @@ extern "C" {
     fn harness_commit(
         record: *const u8,
         record_len: usize,
+        caller: u32,
         event: u32,
         open: u32,
         close: u32,
@@ -181,7 +184,7 @@ impl Library for Linked {
 
     fn commit_door(&self, record: &[u8], c: Commitment, out: &mut [u8]) -> u32 {
         let (bytes, length) = (record.as_ptr(), record.len());
-        unsafe { beyunlak_commit(bytes, length, c.event, c.open, c.close, out.as_mut_ptr(), out.len()) }
+        unsafe { beyunlak_commit(bytes, length, c.caller, c.event, c.open, c.close, out.as_mut_ptr(), out.len()) }
     }
 
     fn plan(&self, prefer: Prefer, ticket: &[u8], out: &mut [u8], scratch: &mut [u32]) -> Answer {
@@ -211,6 +214,7 @@ impl Library for Linked {
             harness_commit(
                 record.as_ptr(),
                 record.len(),
+                c.caller,
                 c.event,
                 c.open,
                 c.close,
@@ -330,6 +334,10 @@ impl Library for Linked {
 
     fn part(&self, ticket: &[u8], device: u32, out: &mut [u8]) -> u32 {
         unsafe { beyunlak_part(ticket.as_ptr(), ticket.len(), device, out.as_mut_ptr(), out.len()) }
+    }
+
+    fn view(&self, record: &[u8], caller: u32, out: &mut [u8]) -> u32 {
+        unsafe { beyunlak_view(record.as_ptr(), record.len(), caller, out.as_mut_ptr(), out.len()) }
     }
 
     fn printed(&self, prefer: Prefer, ticket: &[u8]) -> String {

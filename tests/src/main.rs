@@ -17,6 +17,7 @@ mod narrowing_faults;
 mod parts_faults;
 mod random;
 mod reason_faults;
+mod rights_faults;
 mod scratch_faults;
 mod script;
 mod solvers;
@@ -27,7 +28,7 @@ mod weight_faults;
 
 use cases::{Kind, Subject, KINDS};
 use counts_faults::COUNTS_FAULTS;
-use faults::{Fault, Faulty, FAULTS, GIVING_LESS};
+use faults::{Fault, Faulty, FAULTS, GIVING_LESS, TELLING};
 use grid_faults::{FaultyGrid, GRID_FAULTS};
 use library::Library;
 use mending_faults::MENDING_FAULTS;
@@ -36,17 +37,18 @@ use model::Prefer;
 use narrowing_faults::NARROWING_FAULTS;
 use parts_faults::{LINE_FAULTS, PART_FAULTS};
 use reason_faults::REASON_FAULTS;
+use rights_faults::{CALL_FAULTS, VIEW_FAULTS};
 use scratch_faults::{CALLS, SCRATCH_FAULTS};
 use std::io::Read;
 use std::sync::atomic::{AtomicU64, Ordering};
 use std::sync::Mutex;
 use std::time::Instant;
 use stop_faults::STOP_FAULTS;
-use trial::{Report, NUMBERS, WINS};
+use trial::{Report, NUMBERS, TELLS, WINS};
 use weight_faults::WEIGHT_FAULTS;
 
 /// How many seeds of each kind the quick part tries.
-const QUICK: [(Kind, u64); 31] = [
+const QUICK: [(Kind, u64); 35] = [
     (Kind::Tiny, 3_000),
     (Kind::Structures, 3_000),
     (Kind::Runs, 100),
@@ -78,6 +80,10 @@ const QUICK: [(Kind, u64); 31] = [
     (Kind::PartsOneDevice, 600),
     (Kind::Finer, 400),
     (Kind::FinerTiny, 500),
+    (Kind::Rights, 600),
+    (Kind::RightsTiny, 1_000),
+    (Kind::RightsBytes, 1_500),
+    (Kind::RightsPairs, 800),
 ];
 
 const USAGE: &str = "\
@@ -88,6 +94,7 @@ tests/run one KIND SEED              one case: tiny structures runs foreign dama
                                      latest latest-tiny reason reason-tiny reason-lists stops narrowing
                                      narrowing-tiny counts mending mending-tiny mending-bytes weights weights-tiny
                                      parts parts-tiny parts-bytes parts-separate parts-one-device finer finer-tiny
+                                     rights rights-tiny rights-bytes rights-pairs
 tests/run solvers SEED COUNT         the solvers of the model against each other
 tests/run self-check                 libraries and finer grids with a planted fault: each has to be caught
 tests/run script                     what the model answers to the stored script crates/cases/stdin
@@ -106,13 +113,18 @@ fn library() -> &'static dyn Library {
 }
 
 /// Cases of a part, its calls, and these by the number answered and by kind.
-#[derive(Default)]
 struct Tally {
     passed: u64,
     failed: u64,
     calls: u64,
     numbers: [u64; NUMBERS],
     kinds: [u64; KINDS.len()],
+}
+
+impl Default for Tally {
+    fn default() -> Tally {
+        Tally { passed: 0, failed: 0, calls: 0, numbers: [0; NUMBERS], kinds: [0; KINDS.len()] }
+    }
 }
 
 impl Tally {
@@ -145,7 +157,7 @@ impl Tally {
         }
     }
 
-    /// How many calls were answered with 0, 1, .., 18.
+    /// How many calls were answered with 0, 1, .., 20.
     fn numbers_line(&self) -> String {
         let counts = self.numbers.iter().enumerate().map(|(number, count)| format!("{number}: {count}"));
         format!("calls by number: {}", counts.collect::<Vec<_>>().join(", "))
@@ -226,8 +238,8 @@ fn quick(library: &dyn Library) -> i32 {
         all.join(tally);
     }
     println!("{}", all.numbers_line());
-    // 12 no longer occurs.
-    let numbers: Vec<usize> = (0..NUMBERS).filter(|&number| number != 12).collect();
+    // 11 and 12 no longer occur.
+    let numbers: Vec<usize> = (0..NUMBERS).filter(|number| ![11, 12].contains(number)).collect();
     all.reached("all kinds", &numbers);
     println!("{} calls in {:.1} s", all.calls, start.elapsed().as_secs_f64());
     all.last_line()
@@ -265,7 +277,9 @@ fn library_faults() -> Vec<Fault> {
     let others = MENDING_FAULTS.map(Fault::Mending).into_iter().chain(WEIGHT_FAULTS.map(Fault::Weights));
     let of_parts = PART_FAULTS.map(Fault::Parts).into_iter().chain(LINE_FAULTS.map(Fault::Line));
     let of_scratch = SCRATCH_FAULTS.into_iter().flat_map(|fault| CALLS.map(|call| Fault::Scratch(fault, call)));
-    FAULTS.into_iter().chain(of_calls).chain(of_records).chain(others).chain(of_parts).chain(of_scratch).collect()
+    let of_callers = CALL_FAULTS.map(Fault::Calls).into_iter().chain(VIEW_FAULTS.map(Fault::Views));
+    let all = FAULTS.into_iter().chain(of_calls).chain(of_records).chain(others).chain(of_parts);
+    all.chain(of_scratch).chain(of_callers).collect()
 }
 
 /// The first seed of each of these kinds, out of some that the quick part tries, whose case shows a fault.
@@ -284,6 +298,7 @@ fn finders(fault: Fault) -> Vec<String> {
         Fault::Reason(_) => Subject::Reasons,
         Fault::Mending(_) => Subject::Mending,
         Fault::Parts(_) => Subject::Parts,
+        Fault::Calls(_) | Fault::Views(_) => Subject::Rights,
         _ => Subject::Others,
     };
     // Of the line of part totals the program alone knows.
@@ -304,6 +319,15 @@ fn wins(grid: &dyn Grid, library: &dyn Library) -> Vec<String> {
     shown(|kind| kind.subject() == Subject::Finer, wins)
 }
 
+/// The seeds whose cases find, by two records that are alike for a device alone, that this library tells it of others.
+fn tells(library: &dyn Library) -> Vec<String> {
+    let tells = |kind, seed| {
+        let report = cases::run(kind, seed, library);
+        report.differences.iter().any(|difference| difference.starts_with(TELLS))
+    };
+    shown(|kind| *kind == Kind::RightsPairs, tells)
+}
+
 /// How the quick part finds each planted fault: the kinds of cases that show it.
 fn self_check() -> i32 {
     let mut all = Tally::default();
@@ -317,6 +341,9 @@ fn self_check() -> i32 {
     }
     for fault in GIVING_LESS {
         note(format!("{fault:?}, by finer grids alone"), wins(&Finer, &Faulty { fault }));
+    }
+    for fault in TELLING {
+        note(format!("{fault:?}, by pairs alone"), tells(&Faulty { fault }));
     }
     for fault in GRID_FAULTS {
         note(format!("Grid({fault:?})"), wins(&FaultyGrid { fault }, &library::Model));

@@ -50,7 +50,7 @@ pub enum NarrowingFault {
     FullAgainOnly,
     /// 18 before 13.
     FullBeforeInside,
-    /// 18 before 11.
+    /// 18 before 20.
     FullBeforeEvent,
     /// 18 before 15.
     FullBeforeFit,
@@ -189,7 +189,7 @@ fn refused(fault: NarrowingFault, former: Record, commitment: Commitment, number
     };
     match (fault, number) {
         (NarrowingFault::FullBeforeInside, 13) if full => Err(18),
-        (NarrowingFault::FullBeforeEvent, 11) if full => Err(18),
+        (NarrowingFault::FullBeforeEvent, 20) if full => Err(18),
         (NarrowingFault::FullBeforeFit, 15) if full => Err(18),
         (NarrowingFault::Wraps, 18) => with_count(0, former, commitment),
         (NarrowingFault::StaysAtMost, 18) => with_count(MOST_ACCEPTED, former, commitment),
@@ -219,6 +219,7 @@ fn with_count(count: u32, mut former: Record, commitment: Commitment) -> Outcome
 }
 
 pub fn committed(fault: NarrowingFault, bytes: &[u8], commitment: Commitment) -> Outcome {
+    reading::caller_in_range(commitment.caller)?;
     let former = read(fault, bytes)?;
     match library::committed(bytes, commitment) {
         Ok((record, _)) => accepted(fault, former, commitment, record),

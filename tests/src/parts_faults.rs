@@ -2,7 +2,8 @@
 
 use crate::faults::ticket_prefix;
 use crate::model::calls::{self, Outcome};
-use crate::model::{distances, parts, reading, text, writing, Prefer, Rule, Solver, Ticket, Window, DEVICES};
+use crate::model::{distances, parts, reading, text, writing, Prefer, Rule, Solver, Ticket, Window};
+use crate::model::{DATABASE, DEVICES};
 
 #[derive(Clone, Copy, Debug, PartialEq, Eq)]
 pub enum PartFault {
@@ -255,7 +256,6 @@ pub const LINE_FAULTS: [LineFault; 20] = [
     LineFault::EmptyLine,
 ];
 
-const DATABASE: u8 = 4;
 const WHEEL: u8 = 1;
 
 /// The ticket's rules among these events and point 0, numbered by their places.

@@ -133,7 +133,8 @@ fn table(input: &Input, length: usize) -> Vec<i64> {
 fn plan(call: &str, input: &Input, state: &mut State) -> (Vec<i64>, bool) {
     let mut out = vec![HELD; state.out.min(BYTES)];
     let mut scratch = vec![HELD as u32; state.scratch.min(SCRATCH)];
-    let commitment = Commitment { event: input.four(0), open: input.four(4), close: input.four(8) };
+    let (caller, event) = (input.four(0), input.four(4));
+    let commitment = Commitment { caller, event, open: input.four(8), close: input.four(12) };
     let outcome = || match call {
         "commit" => calls::commit(&state.kept, commitment, Solver::Flow),
         _ => calls::plan(&input.0, Prefer::Earliest, Solver::Flow),

@@ -6,6 +6,7 @@ mod mending;
 mod narrowing;
 mod parts;
 mod reasons;
+mod rights;
 pub mod runs;
 mod scratch;
 mod stops;
@@ -19,7 +20,7 @@ use crate::trial::{Lengths, Report, Trial, ENOUGH};
 /// A name and what it tries.
 type Case = (&'static str, fn(&mut Stored));
 
-pub const CASES: [Case; 91] = [
+pub const CASES: [Case; 100] = [
     ("01, P1 and P2", example_1_2),
     ("01, P3", example_3),
     ("01, P4 and P5", example_4_5),
@@ -99,6 +100,15 @@ pub const CASES: [Case; 91] = [
     ("02, change 9: lengths and contents of scratch", scratch::lengths),
     ("02, change 9: points raised many times", scratch::raised_often),
     ("02, change 9: stored runs", runs::replay),
+    ("02, change 11: views of P1 to P3", rights::example_1),
+    ("02, change 11: views of P4 to P10", rights::examples_4_to_10),
+    ("02, change 11: each device's own events", rights::own_events),
+    ("02, change 11: calls by turns", rights::by_turns),
+    ("02, change 11: refusals of a commitment in their order", rights::refusals),
+    ("02, change 11: refusals of a view in their order", rights::view_refusals),
+    ("02, change 11: views of 40 events", rights::forty),
+    ("02, change 11: views of a session", rights::session),
+    ("02, change 11: records alike for a device", rights::pairs),
     ("000, examples 1 and 2: trains", trains),
     ("000, example 3: earliest to latest", trains_earliest_to_latest),
     ("000, examples 4 to 6: a train commits", trains_commitment),
@@ -132,6 +142,13 @@ fn ticket(horizon: u32, owners: &[u8], rules: &[(u8, u8, i32)]) -> Ticket {
 fn record(ticket: Ticket, windows: &[(u32, u32)]) -> Vec<u8> {
     let windows = windows.iter().map(|&(open, close)| Window { open, close }).collect();
     writing::record(&Record::new(ticket, windows))
+}
+
+/// A commitment of this event to this window, called by its owner; by the camera where the bytes are no record or have no such
+/// event.
+fn by_owner(record: &[u8], (event, open, close): (u32, u32, u32)) -> Commitment {
+    let owner = reading::record(record).ok().and_then(|record| record.owner(event));
+    Commitment { caller: owner.unwrap_or(0), event, open, close }
 }
 
 /// The last 12 bytes of a record with these counts.
@@ -193,10 +210,15 @@ impl Stored<'_> {
         self.both_solvers(tiny, |trial| trial.plan(prefer, &bytes, ENOUGH))
     }
 
+    /// A commitment that the event's owner calls.
     fn commit(&mut self, record: &[u8], event: u32, open: u32, close: u32) -> Option<Vec<u8>> {
+        self.called(record, by_owner(record, (event, open, close)))
+    }
+
+    fn called(&mut self, record: &[u8], commitment: Commitment) -> Option<Vec<u8>> {
         self.trial.rewrite_record(record, calls::RECORD);
         let tiny = reading::record(record).is_ok_and(|r| r.ticket.events() <= 4 && r.ticket.horizon <= 20);
-        self.both_solvers(tiny, |trial| trial.commit(record, Commitment { event, open, close }, ENOUGH))
+        self.both_solvers(tiny, |trial| trial.commit(record, commitment, ENOUGH))
     }
 
     fn windows(&mut self, record: &Option<Vec<u8>>, windows: &[(u32, u32)], what: &str) {
@@ -220,10 +242,15 @@ impl Stored<'_> {
         self.says(record.is_none(), what);
     }
 
+    /// The number that a commitment which the event's owner calls is refused under.
+    fn uncommitted(&mut self, record: &[u8], asked: (u32, u32, u32), number: u32, what: &str) {
+        self.uncalled(record, by_owner(record, asked), number, what);
+    }
+
     /// The number that a commitment is refused under, by the model; the library was compared with it.
-    fn uncommitted(&mut self, record: &[u8], (event, open, close): (u32, u32, u32), number: u32, what: &str) {
-        self.commit(record, event, open, close);
-        let given = calls::commit(record, Commitment { event, open, close }, Solver::Flow);
+    fn uncalled(&mut self, record: &[u8], commitment: Commitment, number: u32, what: &str) {
+        self.called(record, commitment);
+        let given = calls::commit(record, commitment, Solver::Flow);
         self.says(given.err() == Some(number), what);
     }
 

@@ -6,12 +6,13 @@ use crate::model::calls::{self, Answer, Asked, Delivery, Loose, LooseRecord};
 use crate::model::finer::{Allowed, Finer, Grid, PARTS};
 use crate::model::rings::{self, Step};
 use crate::model::stops::NO_PATH;
-use crate::model::{reading, reason, text, writing, Commitment, Prefer, Record, Rule, Solver, Ticket, Window, DEVICES};
+use crate::model::{reading, reason, text, writing, Commitment, Prefer, Record, Rule, Solver, Ticket, Window};
+use crate::model::{DATABASE, DEVICES};
 use crate::random::Random;
 use std::fmt::Debug;
 
-/// Numbers answered: 0 to 18.
-pub const NUMBERS: usize = 19;
+/// Numbers answered: 0 to 20.
+pub const NUMBERS: usize = 21;
 
 /// Calls made, how many of them the model answers with each number, and the differences found.
 #[derive(Default)]
@@ -22,7 +23,8 @@ pub struct Report {
 }
 
 /// A library under trial, and the report so far. What is lent holds the pattern before each call; none: a drawn one. `last` is
-/// what the library answered to the last plan or commitment with lent scratch; the grid is what it is held against.
+/// what the library answered to the last plan or commitment with lent scratch, and `last_door` the number that its door
+/// answered; the grid is what the former is held against.
 pub struct Trial<'a> {
     library: &'a dyn Library,
     pub grid: &'a dyn Grid,
@@ -30,6 +32,7 @@ pub struct Trial<'a> {
     pub solver: Solver,
     pub pattern: Option<Pattern>,
     last: Option<Answer>,
+    last_door: Option<u32>,
     pub report: Report,
 }
 
@@ -59,6 +62,9 @@ pub const WINS: &str = "a finer grid would win";
 /// A finer grid has no windows as wide as an answer.
 const LACKS: &str = "a finer grid lacks the plan";
 
+/// A view, or the number of a commitment, tells two records apart that are alike for its caller.
+pub const TELLS: &str = "a caller is told of others";
+
 pub fn hex(bytes: &[u8]) -> String {
     bytes.iter().map(|byte| format!("{byte:02x}")).collect()
 }
@@ -66,7 +72,8 @@ pub fn hex(bytes: &[u8]) -> String {
 impl<'a> Trial<'a> {
     pub fn new(library: &'a dyn Library, seed: u64) -> Trial<'a> {
         let (random, report) = (Random::new(seed), Report::default());
-        Trial { library, grid: &Finer, random, solver: Solver::Flow, pattern: None, last: None, report }
+        let (solver, pattern) = (Solver::Flow, None);
+        Trial { library, grid: &Finer, random, solver, pattern, last: None, last_door: None, report }
     }
 
     /// Notes a difference unless `holds`.
@@ -124,6 +131,7 @@ impl<'a> Trial<'a> {
     fn door(&mut self, expected: &Delivery, length: usize, call: &dyn Fn() -> String, door: &dyn Fn(&mut [u8]) -> u32) {
         let mut out: Lent<u8> = self.lend(length);
         let answer = door(out.slice());
+        self.last_door = Some(answer);
         let too_short = Delivery::of(&Err(10));
         let Delivery { answer: Answer { number, .. }, record } =
             if length < calls::RECORD { &too_short } else { expected };
@@ -346,6 +354,64 @@ impl<'a> Trial<'a> {
         });
         self.expect(out.untouched_after(written as usize), "rest of the part's output", call);
         (number == 0).then_some(given)
+    }
+
+    /// A caller's view of these bytes; the view, if the model accepts.
+    pub fn view(&mut self, record: &[u8], caller: u32, length: usize) -> Option<Vec<u8>> {
+        let call = || format!("view by {caller} of {} with {length} bytes", hex(record));
+        let mut out: Lent<u8> = self.lend(length);
+        let mut wanted = out.slice().to_vec();
+        let view = || self.expected(&call, |solver| calls::view(record, caller, solver));
+        let (number, written) = calls::hand_out_view(view, &mut wanted);
+        let answer = self.library.view(record, caller, out.slice());
+        self.count(number);
+        self.expect(answer == number, "view's number", || format!("{} answered {answer}, expected {number}", call()));
+        let given = out.first(written as usize).to_vec();
+        self.expect(given == wanted[..given.len()], "view", || {
+            format!("{} wrote {}, expected {}", call(), hex(&given), hex(&wanted[..given.len()]))
+        });
+        self.expect(out.untouched_after(written as usize), "rest of the view's output", call);
+        (number == 0).then_some(given)
+    }
+
+    /// The five views of a record that need no model, by its bytes alone: behind each event's number its nine bytes, where its
+    /// owner's byte is the caller's, of the database all.
+    pub fn are_views(&mut self, record: &[u8], views: &[Vec<u8>]) {
+        let call = || format!("views of {}: {:?}", hex(record), views.iter().map(|view| hex(view)).collect::<Vec<_>>());
+        let events = record[4] as usize;
+        let owners = &record[6..6 + events];
+        let end = record.len() - 2 - 2 * DEVICES;
+        let windows = record[end - 9 * events..end].chunks(9);
+        for (caller, view) in (0..).zip(views) {
+            let shown = (1..).zip(owners.iter().zip(windows.clone()));
+            let shown = shown.filter(|(_, (&owner, _))| caller == DATABASE || caller == owner);
+            let bytes: Vec<Vec<u8>> = shown.map(|(event, (_, window))| [&[event][..], window].concat()).collect();
+            let wanted = [vec![bytes.len() as u8, 0], bytes.concat()].concat();
+            self.expect(*view == wanted, "a view of the record's bytes", call);
+        }
+    }
+
+    /// 02, change 11, of two records that are alike for this device: its views are equal, in number and in all of the output.
+    pub fn are_viewed_alike(&mut self, records: [&[u8]; 2], device: u32) {
+        let library = self.library;
+        let given = records.map(|record| {
+            self.view(record, device, calls::VIEW);
+            let mut out = [0xa5; calls::VIEW];
+            (library.view(record, device, &mut out), out)
+        });
+        let call = || format!("view by {device} of {} and of {}", hex(records[0]), hex(records[1]));
+        self.expect(given[0] == given[1], TELLS, call);
+    }
+
+    /// 02, change 11, of two records that are alike for the caller: the numbers answered to its commitment are equal, with
+    /// lent scratch and by the C door.
+    pub fn are_answered_alike(&mut self, records: [&[u8]; 2], commitment: Commitment) {
+        let given = records.map(|record| {
+            self.commit(record, commitment, ENOUGH);
+            (self.last.map(|answer| answer.number), self.last_door)
+        });
+        let call = || format!("commit {commitment:?} on {} and on {}: {given:?}", hex(records[0]), hex(records[1]));
+        self.expect(given[0] == given[1], TELLS, call);
     }
 
     /// Claims of the five parts of a ticket that need no model, by the library's other answers. By the table, each is of its

@@ -2,7 +2,7 @@
 
 use crate::library;
 use crate::model::calls::Outcome;
-use crate::model::{reading, Commitment, Prefer, Range, Record, Solver, Ticket, Window, DEVICES};
+use crate::model::{reading, Commitment, Prefer, Range, Record, Solver, Ticket, Window, DATABASE, DEVICES};
 
 #[derive(Clone, Copy, Debug, PartialEq, Eq)]
 pub enum WeightFault {
@@ -61,8 +61,6 @@ pub const WEIGHT_FAULTS: [WeightFault; 17] = [
     WeightFault::ForgetsDatabase,
     WeightFault::KeepsDatabase,
 ];
-
-const DATABASE: u8 = 4;
 
 /// For each device one that weighs what the fault has it weigh.
 type Stands = [u8; DEVICES];

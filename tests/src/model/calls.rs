@@ -1,10 +1,10 @@
 //! The calls: what is answered and written, from everything that is lent.
 
 use super::{distances, exhaustive, flags, mending, parts, reading, reason, rings, stops, writing};
-use super::{Commitment, Prefer, Record, Rule, Solver, Ticket, Window, DEVICES, MOST_ACCEPTED};
+use super::{Commitment, Prefer, Record, Rule, Solver, Ticket, Window, DATABASE, DEVICES, MOST_ACCEPTED};
 
 /// Least sizes: bytes of a ticket's and a record's output, numbers of scratch, numbers of a table, bytes of a reason's output,
-/// bytes of the output for a list of dropped rules, bytes of a part's output.
+/// bytes of the output for a list of dropped rules, bytes of a part's output, bytes of a view's output.
 pub const TICKET: usize = 1_584;
 pub const RECORD: usize = 1_958;
 pub const SCRATCH: usize = 2_400;
@@ -12,6 +12,7 @@ pub const TABLE: usize = 1_681;
 pub const REASON: usize = 2_200;
 pub const DROPPED: usize = 514;
 pub const PART: usize = 362;
+pub const VIEW: usize = 402;
 
 /// Number, length and total; the last two are 0 on a refusal.
 #[derive(Clone, Copy, Debug, PartialEq, Eq)]
@@ -57,22 +58,31 @@ pub fn plan(bytes: &[u8], prefer: Prefer, solver: Solver) -> Outcome {
     Ok((Record::new(ticket, windows), total))
 }
 
-/// A commitment on a record's bytes, once output and scratch are long enough. The event may have been committed before:
-/// its present window counts either way. The earliest is preferred, whatever made the record.
-pub fn commit(bytes: &[u8], commitment: Commitment, solver: Solver) -> Outcome {
-    let mut record = reading::record(bytes)?;
-    if !fit(&record, solver) {
-        return Err(15);
+/// A record's bytes as a caller has them read: 19, then 1 to 8 and 14, then 15.
+fn called(bytes: &[u8], caller: u32, solver: Solver) -> Result<Record, u32> {
+    reading::caller_in_range(caller)?;
+    let record = reading::record(bytes)?;
+    if fit(&record, solver) {
+        Ok(record)
+    } else {
+        Err(15)
     }
-    if commitment.event == 0 || commitment.event as usize > record.windows.len() {
-        return Err(11);
+}
+
+/// A commitment on a record's bytes, once output and scratch are long enough: an event of the caller's, be that the database
+/// or another device. The event may have been committed before: its present window counts either way. The earliest is
+/// preferred, whatever made the record.
+pub fn commit(bytes: &[u8], commitment: Commitment, solver: Solver) -> Outcome {
+    let mut record = called(bytes, commitment.caller, solver)?;
+    if record.owner(commitment.event) != Some(commitment.caller) {
+        return Err(20);
     }
     let place = commitment.event as usize - 1;
     let window = record.windows[place];
     if !(window.open <= commitment.open && commitment.open <= commitment.close && commitment.close <= window.close) {
         return Err(13);
     }
-    let owner = record.ticket.owners[place] as usize;
+    let owner = commitment.caller as usize;
     if record.counts[owner] == MOST_ACCEPTED {
         return Err(18);
     }
@@ -307,4 +317,18 @@ pub fn part(bytes: &[u8], device: u32, solver: Solver) -> Result<Vec<u8>, u32> {
 /// Writes a part to a lent output: 10, or its number, and the length of what is written.
 pub fn hand_out_part(part: impl FnOnce() -> Result<Vec<u8>, u32>, out: &mut [u8]) -> (u32, u32) {
     rewrite(out, PART, part)
+}
+
+/// A caller's view of a record's bytes, once the output is long enough: the events of its own, the database all.
+pub fn view(bytes: &[u8], caller: u32, solver: Solver) -> Result<Vec<u8>, u32> {
+    let record = called(bytes, caller, solver)?;
+    let events = (1..=record.windows.len() as u32)
+        .filter(|&event| caller == DATABASE as u32 || record.owner(event) == Some(caller))
+        .map(|event| event as usize);
+    Ok(writing::view(&record, &events.collect::<Vec<_>>()))
+}
+
+/// Writes a view to a lent output: 10, or its number, and the length of what is written.
+pub fn hand_out_view(view: impl FnOnce() -> Result<Vec<u8>, u32>, out: &mut [u8]) -> (u32, u32) {
+    rewrite(out, VIEW, view)
 }

@@ -47,9 +47,10 @@ pub struct Record {
     pub counts: [u32; DEVICES],
 }
 
-/// An event (1 to n) and the window it commits to.
+/// The caller's device, an event (1 to n) and the window it commits to.
 #[derive(Clone, Copy, Debug, PartialEq, Eq)]
 pub struct Commitment {
+    pub caller: u32,
     pub event: u32,
     pub open: u32,
     pub close: u32,
@@ -81,6 +82,9 @@ pub const BOTH: [Prefer; 2] = [Prefer::Earliest, Prefer::Latest];
 
 /// Camera, filter wheel, lamps, stage, database.
 pub const DEVICES: usize = 5;
+
+/// The database: it sees the events of all devices.
+pub const DATABASE: u8 = 4;
 
 /// The greatest count of a device: two bytes hold it.
 pub const MOST_ACCEPTED: u32 = 65_535;
@@ -134,6 +138,12 @@ impl Record {
     /// A record with every event free and no commitment accepted.
     pub fn new(ticket: Ticket, windows: Vec<Window>) -> Record {
         Record { committed: vec![false; windows.len()], ticket, windows, counts: [0; DEVICES] }
+    }
+
+    /// The owner of this event; none where there is no such event.
+    pub fn owner(&self, event: u32) -> Option<u32> {
+        let place = (event as usize).checked_sub(1)?;
+        self.ticket.owners.get(place).map(|&owner| owner as u32)
     }
 
     /// What each window may be after an event commits, be it for the first time or again: its own is the one named, the other

@@ -46,6 +46,11 @@ pub fn owner_in_range(owner: u8) -> Result<(), u32> {
     require(owner <= 4, 4)
 }
 
+/// The device that a commitment or a view names as its caller.
+pub fn caller_in_range(caller: u32) -> Result<(), u32> {
+    require((caller as usize) < DEVICES, 19)
+}
+
 pub fn rules_in_range(rules: u32) -> Result<(), u32> {
     require(rules <= 256, 5)
 }

@@ -1,4 +1,4 @@
-//! Tickets, records, parts and lists to bytes.
+//! Tickets, records, parts, views and lists to bytes.
 
 use super::{Record, Ticket, Window};
 
@@ -18,16 +18,18 @@ pub fn ticket(ticket: &Ticket) -> Vec<u8> {
 pub fn record(record: &Record) -> Vec<u8> {
     let mut bytes = ticket(&record.ticket);
     bytes.extend((record.windows.len() as u16).to_le_bytes());
-    for (window, &committed) in record.windows.iter().zip(&record.committed) {
-        bytes.push(committed as u8);
-        bytes.extend(window.open.to_le_bytes());
-        bytes.extend(window.close.to_le_bytes());
-    }
+    bytes.extend((0..record.windows.len()).flat_map(|place| flagged(record, place)));
     bytes.extend((record.counts.len() as u16).to_le_bytes());
     for count in record.counts {
         bytes.extend((count as u16).to_le_bytes());
     }
     bytes
+}
+
+/// The nine bytes of the event at this place: flag, open and close.
+fn flagged(record: &Record, place: usize) -> Vec<u8> {
+    let Window { open, close } = record.windows[place];
+    [&[record.committed[place] as u8][..], &open.to_le_bytes(), &close.to_le_bytes()].concat()
 }
 
 /// A list of dropped rules: their count, then their numbers.
@@ -42,6 +44,16 @@ pub fn part(events: &[usize], windows: &[Window]) -> Vec<u8> {
         bytes.push(event as u8);
         bytes.extend(window.open.to_le_bytes());
         bytes.extend(window.close.to_le_bytes());
+    }
+    bytes
+}
+
+/// A view: the number of its events, then each one's number and its nine bytes of the record.
+pub fn view(record: &Record, events: &[usize]) -> Vec<u8> {
+    let mut bytes = (events.len() as u16).to_le_bytes().to_vec();
+    for &event in events {
+        bytes.push(event as u8);
+        bytes.extend(flagged(record, event - 1));
     }
     bytes
 }

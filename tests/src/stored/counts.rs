@@ -1,8 +1,8 @@
 //! One count for each device (02, change 5): whole records in plain values, the counts after each commitment of a run, and
 //! what is refused in their bytes, worked out by hand.
 
-use super::{handed, section, three_in_sequence, ticket, two_trains, Stored};
-use crate::model::{calls, reading, writing, Commitment, Prefer, Solver, Ticket, Window, BOTH};
+use super::{by_owner, handed, section, three_in_sequence, ticket, two_trains, Stored};
+use crate::model::{calls, reading, writing, Prefer, Solver, Ticket, Window, BOTH};
 use crate::trial::{Lengths, ENOUGH};
 
 /// Flag, open and close of an event.
@@ -89,7 +89,7 @@ impl Stored<'_> {
         self.says(given == number, what);
         let again = self.trial.rewrite_record(record, calls::RECORD);
         self.says(again.as_deref() == (number == 0).then_some(record), what);
-        let commitment = Commitment { event: 1, open: tick, close: tick };
+        let commitment = by_owner(record, (1, tick, tick));
         self.says(calls::commit(record, commitment, Solver::Flow).err().unwrap_or(0) == number, what);
         let after = self.trial.commit(record, commitment, ENOUGH);
         self.says(after.is_some() == (number == 0), what);
@@ -147,8 +147,8 @@ pub fn each_device(case: &mut Stored) {
         ((3, 4, 4), Ok([3, 0, 0, 0, 1])),
         ((2, 5, 5), Ok([3, 0, 1, 0, 1])),
         ((7, 6, 11), Err(13)),
-        ((9, 0, 0), Err(11)),
-        ((0, 0, 0), Err(11)),
+        ((9, 0, 0), Err(20)),
+        ((0, 0, 0), Err(20)),
         ((4, 0, 3), Ok([3, 0, 1, 1, 1])),
         ((5, 9, 9), Ok([3, 1, 1, 1, 1])),
         ((5, 9, 9), Ok([3, 2, 1, 1, 1])),
@@ -249,7 +249,7 @@ pub fn one_full(case: &mut Stored) {
     let camera = record(&windows, [65_535, 0, 7, 0, 0]);
     case.uncommitted(&camera, (1, 5, 10), 18, "the camera at 65,535");
     case.uncommitted(&camera, (1, 4, 10), 13, "13 before 18");
-    case.uncommitted(&camera, (3, 5, 10), 11, "11 before 18");
+    case.uncommitted(&camera, (3, 5, 10), 20, "20 before 18");
     case.uncommitted(&record(&[(0, 5, 15), (0, 8, 19)], [65_535, 0, 7, 0, 0]), (1, 5, 10), 15, "15 before 18");
     let after = record(&[(0, 5, 11), (1, 9, 9)], [65_535, 0, 8, 0, 0]);
     case.committed(&camera, (2, 9, 9), &after, "the camera at 65,535, and the lamps commit");
@@ -330,7 +330,7 @@ pub fn nothing_owned(case: &mut Stored) {
         let again = case.trial.rewrite_record(&empty, calls::RECORD);
         case.says(again == Some(empty.clone()), "P8 with other counts");
         for event in [0, 1, 5] {
-            case.uncommitted(&empty, (event, 0, 0), 11, "P8 has no event to commit");
+            case.uncommitted(&empty, (event, 0, 0), 20, "P8 has no event to commit");
         }
     }
 }
@@ -430,7 +430,7 @@ pub fn outputs(case: &mut Stored) {
                 case.says(plan.is_some() == is_enough, "1,958 bytes for a plan");
             }
             if let Some(Window { open, close }) = window {
-                let after = case.trial.commit(&record, Commitment { event: 1, open, close }, lengths);
+                let after = case.trial.commit(&record, by_owner(&record, (1, open, close)), lengths);
                 case.says(after.is_some() == is_enough, "1,958 bytes for a commitment");
             }
             let again = case.trial.rewrite_record(&record, out);

@@ -1,8 +1,8 @@
 //! Narrowing again (02, change 4): runs with the windows after each commitment, worked out by hand; a device's count up to
 //! 65,535; refusals in their order.
 
-use super::{handed, record, section, three_in_sequence, ticket, two_trains, Stored};
-use crate::model::{calls, reading, writing, Commitment, Record, Ticket, Window, DEVICES};
+use super::{by_owner, handed, record, section, three_in_sequence, ticket, two_trains, Stored};
+use crate::model::{calls, reading, writing, Record, Ticket, Window, DEVICES};
 use crate::trial::{Lengths, ENOUGH};
 
 /// Event, open and close of a commitment; then the windows after it, or the number that it is refused under.
@@ -27,7 +27,7 @@ fn lamps_only() -> Ticket {
 /// The counts of a record, with one commitment more of this event.
 fn counts_after(record: &[u8], event: u32) -> Result<[u32; DEVICES], u32> {
     let Record { ticket, mut counts, .. } = reading::record(record)?;
-    let owner = ticket.owners.get(event as usize - 1).ok_or(11u32)?;
+    let owner = ticket.owners.get(event as usize - 1).ok_or(20u32)?;
     counts[*owner as usize] += 1;
     Ok(counts)
 }
@@ -210,7 +210,7 @@ pub fn up_to_the_most(case: &mut Stored) {
     }
 }
 
-/// 10; 1 to 8 and 14 in the order of the bytes; 15; 11; 13; 18. What is left in output and scratch is looked at with each.
+/// 10; 1 to 8 and 14 in the order of the bytes; 15; 20; 13; 18. What is left in output and scratch is looked at with each.
 pub fn refusals(case: &mut Stored) {
     let fit = [(6, 9), (8, 10)];
     for committed in [[false, false], [true, false], [true, true]] {
@@ -219,11 +219,11 @@ pub fn refusals(case: &mut Stored) {
         // Both trains from earliest to latest are not fit.
         let unfit = elsewhere(two_trains(), &[(5, 15), (8, 19)], &committed, [65_535; 5]);
         for commitment in [inside, outside, none, (0, 9, 7)] {
-            case.uncommitted(&unfit, commitment, 15, "15 before 11, 13 and 18");
+            case.uncommitted(&unfit, commitment, 15, "15 before 20, 13 and 18");
         }
         for event in [0, 3, 256, 257, u32::MAX] {
-            case.uncommitted(&full, (event, 7, 9), 11, "11 before 18");
-            case.uncommitted(&full, (event, 9, 7), 11, "11 before 13 and 18");
+            case.uncommitted(&full, (event, 7, 9), 20, "20 before 18");
+            case.uncommitted(&full, (event, 9, 7), 20, "20 before 13 and 18");
         }
         for (open, close) in [(5, 9), (6, 10), (9, 7), (10, 10), (5, 5), (0, u32::MAX), (u32::MAX, 0)] {
             case.uncommitted(&full, (1, open, close), 13, "13 before 18");
@@ -234,15 +234,15 @@ pub fn refusals(case: &mut Stored) {
         case.uncommitted(&full[..full.len() - 1], inside, 1, "1 before 18");
         for (out, scratch) in [(1, 0), (0, 1), (1, 1)] {
             let lengths = Lengths { out: ENOUGH.out - out, scratch: ENOUGH.scratch - scratch };
-            for (event, open, close) in [inside, outside, none] {
-                let after = case.trial.commit(&full, Commitment { event, open, close }, lengths);
+            for asked in [inside, outside, none] {
+                let after = case.trial.commit(&full, by_owner(&full, asked), lengths);
                 case.refused(&after, "10 before all others");
             }
         }
     }
     // P8 has no event to commit.
     let none = elsewhere(ticket(0, &[], &[]), &[], &[], [65_535; 5]);
-    case.uncommitted(&none, (1, 0, 0), 11, "no event, and 65,535");
+    case.uncommitted(&none, (1, 0, 0), 20, "no event, and 65,535");
     // Fewer than the two flags: before the windows are looked at together, and before what follows.
     let below = elsewhere(lamps_only(), &[(5, 15), (8, 19)], &[true, true], [0, 0, 1, 0, 0]);
     case.uncommitted(&below, (0, 9, 7), 14, "14 before 15");

@@ -1,8 +1,9 @@
 //! Stored runs: tests/runs.txt has what the library answered and wrote before 02, change 9, with scratch of 8,192 numbers.
-//! All of it is asked for again with other lengths of scratch.
+//! Callers, which came with change 11, are the events' owners, and 20 stands where 11 stood. All of it is asked for again with
+//! other lengths of scratch.
 
 use super::scratch::raised;
-use super::{record, three_in_sequence, ticket, two_trains, unread, Stored};
+use super::{by_owner, record, three_in_sequence, ticket, two_trains, unread, Stored};
 use crate::generate::{self, STRUCTURES};
 use crate::lent::Pattern;
 use crate::library::Library;
@@ -18,11 +19,13 @@ const HEAD: &str = "\
 # Runs of the library with scratch of 8,192 numbers, printed by `tests/run runs`. Each has its name in its first line,
 # and then a call a line: what is asked, and after '=' number, length, total and, where a record is written, its bytes
 # after those of the ticket, with which it begins.
+# The answers are older than callers: each CALLER is the owner of its event, 0 where there is no such event, and there 20
+# stands where the library answered 11.
 #
-# earliest TICKET           the plan of these bytes
-# latest TICKET             the latest plan
-# record RECORD             a record from elsewhere: nothing is asked
-# commit EVENT OPEN CLOSE   a commitment on the last record
+# earliest TICKET                  the plan of these bytes
+# latest TICKET                    the latest plan
+# record RECORD                    a record from elsewhere: nothing is asked
+# commit CALLER EVENT OPEN CLOSE   a commitment on the last record
 ";
 
 /// How much scratch the stored answers were given with.
@@ -69,8 +72,8 @@ impl Printed<'_> {
     fn commit(&mut self, commitment: Commitment) {
         let library = self.library;
         let record = self.record.clone();
-        let Commitment { event, open, close } = commitment;
-        let asked = format!("commit {event} {open} {close}");
+        let Commitment { caller, event, open, close } = commitment;
+        let asked = format!("commit {caller} {event} {open} {close}");
         self.line(&asked, ticket_of(&record), |out, scratch| library.commit(&record, commitment, out, scratch));
     }
 
@@ -122,14 +125,14 @@ fn print_examples(printed: &mut Printed) {
         for prefer in BOTH {
             printed.named(&format!("{name}, {}", name_of(prefer)));
             printed.plan(prefer, &writing::ticket(&ticket));
-            for &(event, open, close) in commitments {
-                printed.commit(Commitment { event, open, close });
+            for &asked in commitments {
+                printed.commit(by_owner(&printed.record, asked));
             }
         }
     }
     printed.named("P3");
     printed.elsewhere(record(two_trains(), &[(15, 15), (13, 19)]));
-    printed.commit(Commitment { event: 2, open: 13, close: 13 });
+    printed.commit(by_owner(&printed.record, (2, 13, 13)));
 }
 
 /// Tickets that are refused under 1 to 8, the plan and the latest plan by turns, and those that one rule leaves no schedule.
@@ -181,14 +184,14 @@ fn print_elsewhere(printed: &mut Printed) {
         printed.drawn_commitments(6, &mut random);
     }
     let windows = |ends: [(u32, u32); 2]| ends.map(|(open, close)| Window { open, close }).to_vec();
-    let inside = Commitment { event: 1, open: 6, close: 9 };
+    let inside = (1, 6, 9);
     let counts = [MOST_ACCEPTED - 1, 0, 7, 0, 0];
     let high = Record { counts, ..Record::new(two_trains(), windows([(5, 11), (9, 9)])) };
     let bytes = writing::record(&high);
     printed.named("up to the greatest count");
     printed.elsewhere(bytes.clone());
-    for commitment in [inside, inside, Commitment { event: 2, open: 9, close: 9 }, Commitment { event: 3, ..inside }] {
-        printed.commit(commitment);
+    for asked in [inside, inside, (2, 9, 9), (3, 6, 9)] {
+        printed.commit(by_owner(&printed.record, asked));
     }
     let flagged = Record { committed: vec![false, true], counts: [0; 5], ..high.clone() };
     let unfit = Record { windows: windows([(5, 15), (8, 19)]), ..high };
@@ -200,7 +203,7 @@ fn print_elsewhere(printed: &mut Printed) {
     ] {
         printed.named(name);
         printed.elsewhere(record);
-        printed.commit(inside);
+        printed.commit(by_owner(&printed.record, inside));
     }
 }
 
@@ -248,11 +251,12 @@ fn again(case: &mut Stored, line: &str, record: &[u8]) -> Option<Vec<u8>> {
             }
             expected
         }
-        ["commit", event, open, close] => {
-            let (event, open, close) = (event.parse().ok()?, open.parse().ok()?, close.parse().ok()?);
+        ["commit", caller, event, open, close] => {
+            let (caller, event) = (caller.parse().ok()?, event.parse().ok()?);
+            let (open, close) = (open.parse().ok()?, close.parse().ok()?);
             let expected = told(&answer, ticket_of(record))?;
             for lengths in lengths {
-                case.trial.commit_as(record, Commitment { event, open, close }, &expected, lengths);
+                case.trial.commit_as(record, Commitment { caller, event, open, close }, &expected, lengths);
             }
             expected
         }
@@ -281,5 +285,5 @@ pub fn replay(case: &mut Stored) {
         }
     }
     let met: Vec<usize> = (0..NUMBERS).filter(|&number| case.trial.report.numbers[number] > 0).collect();
-    case.says(met == [0, 1, 2, 3, 4, 5, 6, 7, 8, 9, 10, 11, 13, 14, 15, 18], "all numbers are stored");
+    case.says(met == [0, 1, 2, 3, 4, 5, 6, 7, 8, 9, 10, 13, 14, 15, 18, 20], "all numbers are stored");
 }

@@ -1,10 +1,10 @@
 //! Lent scratch (02, change 9): 2,400 numbers are enough, whatever they hold, and no fewer.
 
-use super::{record, ticket, two_trains, Stored};
+use super::{by_owner, record, ticket, two_trains, Stored};
 use crate::lent::PATTERNS;
 use crate::mirror;
 use crate::model::calls::{Answer, Delivery};
-use crate::model::{writing, Commitment, Prefer, Record, Ticket, Window, BOTH};
+use crate::model::{writing, Prefer, Record, Ticket, Window, BOTH};
 use crate::trial::{Lengths, ENOUGH, LEAST};
 
 /// What is expected where this record of P1 is written.
@@ -39,7 +39,7 @@ pub fn lengths(case: &mut Stored) {
     let commitments = [
         (&plan[..], (1, 10, 10), written(committed(), 6)),
         (&plan, (1, 4, 10), refused(13)),
-        (&plan, (3, 9, 9), refused(11)),
+        (&plan, (3, 9, 9), refused(20)),
         (&[], (1, 10, 10), refused(1)),
     ];
     for pattern in PATTERNS {
@@ -51,9 +51,8 @@ pub fn lengths(case: &mut Stored) {
                 let given = case.trial.plan_as(*prefer, bytes, expected, lengths);
                 case.says(given.is_some() == accepts(expected), "2,400 numbers for a plan");
             }
-            for (bytes, (event, open, close), expected) in &commitments {
-                let commitment = Commitment { event: *event, open: *open, close: *close };
-                let given = case.trial.commit_as(bytes, commitment, expected, lengths);
+            for (bytes, asked, expected) in &commitments {
+                let given = case.trial.commit_as(bytes, by_owner(bytes, *asked), expected, lengths);
                 case.says(given.is_some() == accepts(expected), "2,400 numbers for a commitment");
             }
         }
