@@ -1,6 +1,8 @@
 // Adds one demand to a difference network with no flow, or finds that no potential meets it: by a lift, or where that is given up by a search.
 // Rests on crate network, which stores the edges, and on crates lift and search.
 
+#![tactic(auto)]
+
 ghost use Rattle.std.specs.Prelude.{◌<◌, ◌≤◌};
 ghost use Rattle.network.specs.Grow.{Growing};
 ghost use Rattle.admit.specs.Admit.{Approached, Admissible, Admits};

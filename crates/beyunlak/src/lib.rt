@@ -1,6 +1,9 @@
 // The nine functions that a host program in C calls: planning, the latest plan and commitment on numbers and byte slices, what a device sees of a record, the table
 // of distances, that table after some of its stops, the reason why a ticket is impossible, the mended ticket, and one device's part.
 // The first three hold the scratch that crate `plan` works in, so that number 10 says that the output is too short. Nobody sees it, so it is not cleared.
+
+#![tactic(auto)]
+
 ghost use Rattle.std.specs.Prelude.{◌≡◌, map, length, replicate};
 ghost use Rattle.runs.specs.Calls.{planning, planning_latest, committing};
 ghost use Rattle.temporal.specs.Table.{table_of};

@@ -1,6 +1,8 @@
 // What an edge with no slack can carry: how much flow, of what its tail has to send and what the event of its head wants, and what is left of both.
 // Rests on crate network, which stores the edges, and on edge for what an edge allows its head.
 
+#![tactic(auto)]
+
 ghost use Rattle.std.specs.Prelude.{◌≡◌, ◌-◌, ◌<◌, ◌≤◌, length, set};
 ghost use Rattle.network.specs.Stored.{at};
 ghost use Rattle.edge.specs.Limit.{EdgeFits};

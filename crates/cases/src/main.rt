@@ -1,6 +1,9 @@
 // Runs the cases of the script on standard input, a line each, and prints for each its name and what the call answers; "memory" follows where a
 // byte or a number is not what it must be after the call. The script says at its top how its lines are read.
 // Rests on crate `script` for the lines and on crate `forms`, `distances` and `planning` for the calls.
+
+#![tactic(auto)]
+
 mod distances;
 mod planning;
 

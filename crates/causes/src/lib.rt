@@ -2,6 +2,8 @@
 // call.
 // Rests on `temporal` for the causes, on `runs` for room and clearing, on `ticket` and `potentials` for the record's struct and arrays, and on `fitness` for the test of its windows.
 
+#![tactic(auto)]
+
 ghost use Rattle.std.specs.Prelude.{◌≡◌, ◌∷◌, ◌≤◌, not, ◌&&◌, ◌||◌, leb, ltb, length, get_or};
 ghost use Rattle.temporal.specs.Plan.{cause, asking};
 ghost use Rattle.ticket.specs.Writing.{firsts, state_of};

@@ -2,6 +2,8 @@
 // The working array has 41 rows of 41 entries. An entry is a true number plus BIAS, or NONE where there is no path yet.
 // Rests on `temporal`, whose rules and schedules the entries are about, and on `paths`, whose shortest paths they are.
 
+#![tactic(auto)]
+
 ghost use Rattle.std.specs.Prelude.{◌≡◌, ◌≢◌, ◌+◌, ◌*◌, ◌-◌, ◌≤◌, min, pos, negsuc, ◌≤ℤ◌, length, set};
 ghost use Rattle.closure.specs.Signed.{raise, lower};
 ghost use Rattle.closure.specs.Matrix as matrix;

@@ -2,6 +2,8 @@
 // An edge is four numbers of the lent slice: tail, head, biased cost, flow.
 // Rests on `ticket` for the struct, on `potentials` for the nodes, and on `network` for the edges.
 
+#![tactic(auto)]
+
 ghost use Rattle.std.specs.Prelude.{◌≡◌, ℕ, ◌+◌, ◌*◌, ◌<◌, ◌≤◌, length};
 ghost use Rattle.temporal.specs.Bound.{above, below, biased};
 ghost use Rattle.network.specs.Stored.{at};

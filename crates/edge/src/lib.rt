@@ -1,6 +1,8 @@
 // How far the edges of a difference network let its nodes move: how high and how low a node can be while the others stay, and how far all nodes can rise together.
 // Rests on crate network, which stores the edges.
 
+#![tactic(auto)]
+
 ghost use Rattle.std.specs.Prelude.{◌≡◌, ◌+◌, ◌*◌, ◌-◌, ◌<◌, ◌≤◌};
 ghost use Rattle.network.specs.Stored.{at, tail_of, head_of, cost_of, Network, Potential};
 ghost use Rattle.network.specs.Index.{Index};

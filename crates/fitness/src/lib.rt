@@ -1,6 +1,8 @@
 // Whether windows are fit, and what they count: the test on window ends, and the weighted total.
 // Rests on `ticket` for the struct, on `temporal` for fitness and weights, on `potentials` and `demands` for the rules over nodes, and on `network` for sums.
 
+#![tactic(auto)]
+
 ghost use Rattle.std.specs.Prelude.{◌≡◌, ℕ, ◌*◌, ◌-◌, ◌<◌, ◌≤◌};
 ghost use Rattle.temporal.specs.Ticket.{weight, total_of, total, fits};
 ghost use Rattle.temporal.specs.Run.{Valid};

@@ -2,6 +2,8 @@
 // Event i of 1 to n has a lo node, i, and a hi node, n + i: its weight runs from lo nodes to its hi node over edges with no slack.
 // Rests on crates network, which stores the edges, search, which searches among them, edge and carry for single edges, warm for the potential to start from, and path for the paths that are found.
 
+#![tactic(auto)]
+
 ghost use Rattle.std.specs.Prelude.{◌≡◌, ℕ, ◌+◌, ◌*◌, ◌-◌, ◌<◌, length};
 ghost use Rattle.network.specs.Stored.{Beyond, flow_of, Network, Potential};
 ghost use Rattle.network.specs.Index.{Index};

@@ -1,6 +1,8 @@
 // The cases that read and write tickets and records: the calls, and what they answer.
 // Rests on the crates `reading`, `reading_records`, `writing` and `writing_records`, on the structs of `ticket`, and on `script` for input, output and printing.
 
+#![tactic(auto)]
+
 ghost use Rattle.std.specs.Prelude.{◌≤◌, ◌≡◌, length, take};
 ghost use Rattle.script.specs.Lent.{Decides, untouched, holding};
 

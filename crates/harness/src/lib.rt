@@ -1,5 +1,8 @@
 // What the tests call beside the functions of crate `beyunlak`: both plans and commitment with lent scratch, reading a ticket or a record and
 // writing it back, and writing a ticket or a record of given values. Each answers the refusal number; a second result is stored through a reference.
+
+#![tactic(auto)]
+
 ghost use Rattle.std.specs.Prelude.{◌≡◌, pos};
 ghost use Rattle.ticket.specs.Format.{read_ticket, read_state};
 ghost use Rattle.ticket.specs.Writing.{written_of, output_of, record_written, record_output};

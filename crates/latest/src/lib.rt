@@ -1,6 +1,8 @@
 // The windows of either plan of a ticket's struct. The latest plan is the plan of the mirror, turned back (02, change 1).
 // Rests on `mirror` for the mirrored ticket and on `windows` for its plan.
 
+#![tactic(auto)]
+
 ghost use Rattle.std.specs.Prelude.{◌≡◌, true, length};
 ghost use Rattle.temporal.specs.Run.{Valid};
 ghost use Rattle.ticket.specs.Writing.{content};

@@ -2,6 +2,8 @@
 // raised before asks for. Where the head of the demand would have to rise too, the edges on the way there close a ring with it, and it cannot be met.
 // Rests on crate network, which stores and lists the edges.
 
+#![tactic(auto)]
+
 ghost use Rattle.std.specs.Prelude.{◌≡◌, ℕ, ◌+◌, ◌*◌, ◌-◌, ◌<◌, ◌≤◌, length};
 ghost use Rattle.network.specs.Stored.{at, tail_of, cost_of, Network, Potential};
 ghost use Rattle.network.specs.Index.{Index, Listed};

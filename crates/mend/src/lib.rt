@@ -1,6 +1,9 @@
 // Mending a ticket on bytes: the kept rules go into one output, as a ticket, and the numbers of the dropped ones into another.
 // The promise of `mend` is an equation with the outcome that crate `mending` defines (specs/Mending) of all that the call is lent.
 // Rests on `select` for which rules are kept, and on `reading` and `writing` for the bytes.
+
+#![tactic(auto)]
+
 ghost use Rattle.std.specs.Prelude.{◌≡◌, ◌≤◌, length};
 ghost use Rattle.std.proofs.lemmas.List.Edits.{sets};
 ghost use Rattle.temporal.specs.Run.{Valid};

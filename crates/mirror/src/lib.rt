@@ -2,6 +2,8 @@
 // The bounds of the mirror are cut at the horizon, so that it is a ticket again where every rule with the start can be kept (specs/Cut).
 // Rests on `ticket` for the struct and on `potentials` for windows in arrays.
 
+#![tactic(auto)]
+
 ghost use Rattle.std.specs.Prelude.{◌≡◌, ◌≤◌, length};
 ghost use Rattle.temporal.specs.Lists.{All};
 ghost use Rattle.temporal.specs.Run.{Valid, ValidRule};

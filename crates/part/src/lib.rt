@@ -1,6 +1,9 @@
 // One device's part of a ticket on bytes: the ticket is read, and the events and windows of the device's part go into the lent output.
 // The promise of `part` is an equation with the outcome that crate `parts` defines (specs/Parting) of all that the call is lent.
 // Rests on `part_windows` for the part, on `reading` for the ticket, and on `writing` and `writing_records` for the bytes.
+
+#![tactic(auto)]
+
 ghost use Rattle.std.specs.Prelude.{◌≡◌, ℕ, suc, ◌+◌, ◌≤◌, ◌<◌, length};
 ghost use Rattle.std.proofs.lemmas.List.Edits.{sets};
 ghost use Rattle.temporal.specs.Run.{Valid};

@@ -3,6 +3,8 @@
 // head, biased cost, flow.
 // Rests on `parts` for what a part is, on `closure` for the matrix, and on `network`, `potentials` and `demands` for the edges.
 
+#![tactic(auto)]
+
 ghost use Rattle.std.specs.Prelude.{◌≡◌, List, ℕ, suc, ◌+◌, ◌*◌, ◌-◌, ◌<◌, ◌≤◌, length, replicate};
 ghost use Rattle.temporal.specs.Bound.{biased};
 ghost use Rattle.network.specs.Stored.{at};

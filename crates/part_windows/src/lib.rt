@@ -2,6 +2,8 @@
 // Rests on `parts` for what a part is, on `schedule` for whether there is a schedule, on `stops` and `closure` for the distances, on `part_network` for the network
 // that keeps them, on `windows` and `flow` for the widest windows, and on `fitness` for their total.
 
+#![tactic(auto)]
+
 ghost use Rattle.std.specs.Prelude.{◌≡◌, true, false, ℕ, ◌+◌, ◌*◌, ◌<◌, ◌≤◌, T, length, replicate};
 ghost use Rattle.temporal.specs.Distance.{consistent};
 ghost use Rattle.temporal.specs.Run.{Valid};

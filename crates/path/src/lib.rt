@@ -1,6 +1,8 @@
 // The path that a search found, by links from a node to the root: how much flow it has room for, and that flow pushed along it.
 // Rests on crate network, which stores the edges, on search for the tree of links, on carry for what is taken off a supply, and on edge for where an edge stands.
 
+#![tactic(auto)]
+
 ghost use Rattle.std.specs.Prelude.{◌≡◌, ◌+◌, ◌*◌, ◌-◌, ◌<◌, ◌≤◌, min};
 ghost use Rattle.network.specs.Stored.{at, Network};
 ghost use Rattle.search.specs.Tree.{Linked};

@@ -3,6 +3,8 @@
 // Rests on `causes` for what refuses a commitment and for clearing the scratch, on `reading`, `reading_records` and `writing_records` for the bytes, on `latest`, `windows` and
 // `fitness` for the windows.
 
+#![tactic(auto)]
+
 ghost use Rattle.std.specs.Prelude.{◌≡◌, ◌≤◌, length};
 ghost use Rattle.temporal.specs.Ticket.{total};
 ghost use Rattle.temporal.specs.Plan.{plan_for, cause, commit, accepted, asking};

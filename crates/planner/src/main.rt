@@ -1,6 +1,9 @@
 // Prints the plan of the ticket on standard input and under it the totals of the five devices' parts, or the number under which the ticket is refused. With the
 // argument `latest` it is the latest plan.
 // It reads at most one byte more than the longest ticket has, so its memory and its time do not grow with the input.
+
+#![tactic(auto)]
+
 mod print;
 
 ghost use Rattle.std.specs.Prelude.{◌≡◌, length};

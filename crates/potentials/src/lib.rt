@@ -2,6 +2,8 @@
 // Event i + 1 has the places i of the arrays, its open is node i + 1 and its close node n + i + 1. Node 0 is the start.
 // Rests on `ticket` for the struct, on `temporal` for windows, and on `network` for lists read by their places.
 
+#![tactic(auto)]
+
 ghost use Rattle.std.specs.Prelude.{◌≡◌, cond, ℕ, suc, ◌+◌, ◌<◌, ◌≤◌, eqb, length, set};
 ghost use Rattle.network.specs.Stored.{at};
 ghost use Rattle.potentials.specs.Pairs.{Nodes, Pairs, loosened, Read};

@@ -1,5 +1,8 @@
 // Reads tickets. A refusal answers its number and zeros elsewhere.
 // Rests on crate ticket, which has the structs and the parsers that the contracts name.
+
+#![tactic(auto)]
+
 ghost use Rattle.std.specs.Prelude.{◌≡◌, ◌+◌, ◌*◌, ◌≤◌, ◌<◌, length, drop};
 ghost use Rattle.std.specs.Int.{w32};
 ghost use Rattle.std.proofs.Common.{to_z};

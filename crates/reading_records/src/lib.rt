@@ -1,5 +1,8 @@
 // Reads records. A refusal answers its number and zeros elsewhere.
 // Rests on crate ticket, which has the structs and the parsers that the contracts name, and on crate reading, which reads the record's ticket.
+
+#![tactic(auto)]
+
 ghost use Rattle.std.specs.Prelude.{◌≡◌, ◌+◌, ◌*◌, ◌≤◌, ◌<◌, length, drop, []};
 ghost use Rattle.ticket.specs.Format.{read_same};
 ghost use Rattle.reading_records.specs.Parts.{no_window, window_at, windows_of, windows_at, window_section, no_count, count_at, counts_of, counts_at, count_section, first_record};

@@ -1,6 +1,9 @@
 // The reason why a ticket is impossible, on bytes: the ticket is read, the two lists of names are tested, the ring is sought, and its text is written into
 // the lent output. The promise of `reason` is an equation with the outcome that crate `reasons` defines (specs/Reasoning) of all that the call is lent.
 // Rests on `reading` for the ticket, on `names` for the lists, on `ring` for the ring, and on `ring_text` for its text.
+
+#![tactic(auto)]
+
 ghost use Rattle.std.specs.Prelude.{◌≡◌, ◌≤◌, length};
 ghost use Rattle.temporal.specs.Run.{Valid};
 ghost use Rattle.ticket.specs.Writing.{content};

@@ -1,5 +1,8 @@
 // The ring of rules that says why a ticket has no schedule: found from the least costs of walks, root by root, and then rule by rule.
 // Rests on `ticket` for the struct, on `demands` for the cost of a bound, and on `rings`, which says what the ring is and why the search finds it.
+
+#![tactic(auto)]
+
 ghost use Rattle.std.specs.Prelude.{◌≡◌, ◌&&◌, [], ℕ, ◌+◌, ◌*◌, ◌-◌, ◌<◌, ◌≤◌, min, T, ltb, eqb, length, get_or, set};
 ghost use Rattle.temporal.specs.Run.{Valid};
 ghost use Rattle.ticket.specs.Writing.{content};

@@ -1,5 +1,8 @@
 // Writes the text of a ring of rules, line by line: the point-line writer and the rule-line writer call each other until no rule is left.
 // Rests on `ticket` for the struct, on `text` for numbers and words, and on `names` for the names. What the text is stands in `reasons` (specs/Text).
+
+#![tactic(auto)]
+
 ghost use Rattle.std.specs.Prelude.{◌≡◌, true, ◌+◌, ◌*◌, ◌≤◌, [], ◌∷◌, ◌++◌, length, take};
 ghost use Rattle.temporal.specs.Lists.{All};
 ghost use Rattle.temporal.specs.Ticket.{events};

@@ -1,6 +1,8 @@
 // One node is scanned in a search: all edges at it are visited, the box edges by their places and the others by the lists of its edges.
 // Rests on crate network, which stores and lists the edges, and on crate visit, which visits one.
 
+#![tactic(auto)]
+
 ghost use Rattle.std.specs.Prelude.{◌+◌, ◌*◌, ◌-◌, ◌<◌};
 ghost use Rattle.visit.specs.Search.{Search};
 ghost use Rattle.network.specs.Index.{Index, Listed};

@@ -1,6 +1,8 @@
 // A schedule of a ticket's struct, where there is one: by relaxation, else by a network of the points that grows rule by rule.
 // Rests on `ticket` for the struct, on `demands` for the rules, on `network` for the edges, and on `admit` for adding one more.
 
+#![tactic(auto)]
+
 ghost use Rattle.std.specs.Prelude.{◌≡◌, ◌+◌, ◌*◌, ◌<◌, ◌≤◌, length};
 ghost use Rattle.temporal.specs.Bound.{biased};
 ghost use Rattle.network.specs.Grow.{Growing};

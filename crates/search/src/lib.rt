@@ -2,6 +2,8 @@
 // backwards; it goes on by distances. At its end, at distance d, the nodes nearer than d are raised once, each by what it lacks of d.
 // Rests on crate network, which stores the edges, and on crates visit and scan, which make the steps of a search.
 
+#![tactic(auto)]
+
 ghost use Rattle.std.specs.Prelude.{◌≡◌, ℕ, ◌+◌, ◌*◌, ◌-◌, ◌<◌, ◌≤◌, length};
 ghost use Rattle.network.specs.Stored.{at, Beyond, Network, Potential};
 ghost use Rattle.search.specs.Tree.{Reached};

@@ -1,6 +1,9 @@
 // The selection among a ticket's rules, on the struct: each rule is kept that can be kept with those kept before it, and the others are dropped.
 // The promise of `mend_ticket` is an equation with the mended ticket and the dropped numbers that crate `mending` defines (specs/Selection).
 // Rests on `network` for the limits of the points, and on `schedule` for adding one rule.
+
+#![tactic(auto)]
+
 ghost use Rattle.std.specs.Prelude.{◌≡◌, ◌+◌, ◌*◌, ◌≤◌, [], length};
 ghost use Rattle.temporal.specs.Run.{Valid};
 ghost use Rattle.network.specs.Stored.{at};

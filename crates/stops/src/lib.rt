@@ -1,6 +1,9 @@
 // The table of a ticket after some of its stops, on bytes (02, change 3): the ticket is read, that it has a schedule is tested, and the working entries after
 // so many stops are written into the lent output. The promise of `table_after` is an equation with the outcome that specs/After defines of all that the call
 // is lent. Rests on `reading` for the ticket, on `table` for the entries before the first stop, and on `closure` for the stops.
+
+#![tactic(auto)]
+
 ghost use Rattle.std.specs.Prelude.{◌≡◌, ◌≤◌, length};
 ghost use Rattle.temporal.specs.Distance.{consistent};
 ghost use Rattle.temporal.specs.Run.{Valid};

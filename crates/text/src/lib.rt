@@ -1,6 +1,8 @@
 // The text of an answer, written into a lent slice. Each function answers the index after what it wrote.
 // Rests on `ticket` for the struct of a record.
 
+#![tactic(auto)]
+
 ghost use Rattle.std.specs.Prelude.{◌≡◌, ◌+◌, ◌*◌, ◌<◌, ◌≤◌, [], ◌∷◌, ◌++◌, length};
 ghost use Rattle.text.specs.Text.{decimal, refusal, heading, event_line, totals_line, each, line_at, record_text};
 ghost use Rattle.text.specs.Text.{digit as Text·digit};

@@ -2,6 +2,9 @@
 // The promise of `view` is an equation with the outcome that crate `viewing` defines (specs/View) of all that the call is lent.
 // Rests on `reading_records` for the record, on `causes` for what its struct says, on `fitness` for the test of its windows, and on `writing` and
 // `writing_records` for the bytes.
+
+#![tactic(auto)]
+
 ghost use Rattle.std.specs.Prelude.{◌≡◌, ◌+◌, ◌*◌, ◌≤◌, ◌<◌, length};
 ghost use Rattle.std.proofs.lemmas.List.Edits.{sets};
 ghost use Rattle.ticket.specs.Writer.{each};

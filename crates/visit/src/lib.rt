@@ -2,6 +2,8 @@
 // lowered, or is reached. A search goes over edges from head to tail, and over edges with flow from tail to head; it goes by distances, which are sums of slacks.
 // Rests on crate network, which stores the edges.
 
+#![tactic(auto)]
+
 ghost use Rattle.std.specs.Prelude.{◌≡◌, ◌+◌, ◌*◌, ◌-◌, ◌<◌, length, set};
 ghost use Rattle.network.specs.Stored.{at, tail_of, head_of};
 ghost use Rattle.visit.specs.Visit.{Step, step_to, Offered, Backed, Boxed};

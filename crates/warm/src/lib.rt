@@ -2,6 +2,8 @@
 // Event i of 1 to n has a lo node, i, and a hi node, n + i. How wide the result is is not promised: only that it is a potential.
 // Rests on crates network, which stores the edges, and edge, which says how far one node can move, and all together.
 
+#![tactic(auto)]
+
 ghost use Rattle.std.specs.Prelude.{◌≡◌, ℕ, ◌+◌, ◌*◌, ◌-◌, ◌<◌, ◌≤◌, length};
 ghost use Rattle.network.specs.Stored.{at, Beyond, flow_of, Network, Potential};
 ghost use Rattle.network.specs.Index.{Index};

@@ -2,6 +2,8 @@
 // Event i + 1 has the places i of the arrays. An edge is four numbers of the lent slice: tail, head, biased cost, flow.
 // Rests on `ticket` for the struct, on `potentials` and `demands` for the network, on `schedule` for where to start, on `flow` for the widest windows, and on `fitness` for the law of their total.
 
+#![tactic(auto)]
+
 ghost use Rattle.std.specs.Prelude.{◌≡◌, true, ◌+◌, ◌*◌, ◌≤◌, length, replicate};
 ghost use Rattle.temporal.specs.Ends.{Ends};
 ghost use Rattle.temporal.specs.Best.{Chosen};

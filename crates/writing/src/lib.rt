@@ -1,5 +1,8 @@
 // Writes tickets. A refusal answers its number and 0, and leaves the output as it was.
 // Rests on crate ticket, which has the structs and the bytes that the contracts name.
+
+#![tactic(auto)]
+
 ghost use Rattle.std.specs.Prelude.{◌≡◌, ◌+◌, ◌*◌, ◌≤◌, ◌<◌, length, []};
 ghost use Rattle.std.proofs.lemmas.List.Edits.{sets};
 ghost use Rattle.std.specs.Int.{w32};

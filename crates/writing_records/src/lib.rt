@@ -1,5 +1,8 @@
 // Writes records. A refusal answers its number and 0, and leaves the output as it was.
 // Rests on crate ticket, which has the structs and the bytes that the contracts name, and on crate writing, which writes the record's ticket.
+
+#![tactic(auto)]
+
 ghost use Rattle.std.specs.Prelude.{◌≡◌, ℕ, ◌+◌, ◌*◌, ◌≤◌, ◌<◌, length, []};
 ghost use Rattle.std.proofs.lemmas.List.Edits.{sets};
 ghost use Rattle.ticket.specs.Writer.{bytes, each, window_bytes, write_window, write_state};

@@ -1,0 +1,11 @@
+use native.Mathlib.Omega.{arith}
+use borrow.Author.Rules.{rules}
+use Prim.Native.Nat.{◌-◌, ◌≤◌, ◌<◌}
+use Rattle.lift.specs.Lift.{Passes, AtNode, OriginFrom, visit_asks, visit_passes, passes_none, passes_then, passes_ends, origin_edge, origin_next}
+use Rattle.lift.proofs.visit_origin.Given as goal
+
+abbrev pub invariant-loop-u : goal.invariant-loop-u
+invariant-loop-u l = (0 < l.u) × (l.u ≤ l.nodes) × (l.r ≤ 400) × Passes l.net l.m l.nodes l.b l.initial.pot l.initial.queue l.t l.pot l.queue l.r (AtNode l.net 0) (OriginFrom l.net l.u)
+
+abbrev pub decreases-loop-u : goal.decreases-loop-u
+decreases-loop-u l = l.nodes - l.u

@@ -1,0 +1,14 @@
+use native.Mathlib.Omega.{arith}
+use borrow.Author.Rules.{rules}
+use Prim.Native.Nat.{◌+◌, ◌*◌, ◌-◌, ◌≤◌, ◌<◌}
+use mathlib.Core.Path.{◌≡◌, refl, ◌∙◌}
+use lib.ListN.{length}
+use Rattle.network.specs.Stored.{at, Beyond}
+use Rattle.network.specs.Edges.{Boxes, boxes_none, boxes_more}
+use Rattle.network.proofs.boxes.Given as goal
+
+abbrev pub invariant-loop-v : goal.invariant-loop-v
+invariant-loop-v l = (0 < l.v) × (l.v ≤ l.last + 1) × (length l.net ≡ length l.initial.net) × Boxes l.net l.v (at l.low) (at l.high) × Beyond l.initial.net l.net (8 * l.v - 8)
+
+abbrev pub decreases-loop-v : goal.decreases-loop-v
+decreases-loop-v l = l.last + 1 - l.v

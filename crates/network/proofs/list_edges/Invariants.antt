@@ -1,0 +1,12 @@
+use native.Mathlib.Omega.{arith}
+use Prim.Native.Nat.{◌≤◌, ◌-◌}
+use mathlib.Core.Path.{◌≡◌, refl, ◌∙◌}
+use lib.ListN.{length}
+use Rattle.network.specs.Index.{Index, end_tail, index_none, index_link}
+use Rattle.network.proofs.list_edges.Given as goal
+
+abbrev pub invariant-loop-e : goal.invariant-loop-e
+invariant-loop-e l = (l.base ≤ l.e) × (l.e ≤ l.m) × (length l.tails ≡ length l.initial.tails) × (length l.heads ≡ length l.initial.heads) × Index l.net l.e l.base 0 l.tails × Index l.net l.e l.base 1 l.heads
+
+abbrev pub decreases-loop-e : goal.decreases-loop-e
+decreases-loop-e l = l.m - l.e

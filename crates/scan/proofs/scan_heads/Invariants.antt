@@ -1,0 +1,12 @@
+use Prim.Native.Nat.{◌*◌, ◌-◌}
+use native.Mathlib.Omega.{arith}
+use mathlib.Core.Path.{refl}
+use Rattle.scan.specs.Sweep.{Sweep, Follows, sweep_sizes, sweep_none, follows, head_asks, head_more, sweep_done}
+use borrow.Author.Rules.{rules}
+use Rattle.scan.proofs.scan_heads.Given as goal
+
+abbrev pub invariant-loop-x : goal.invariant-loop-x
+invariant-loop-x l = Sweep l.net l.m l.nodes l.pot l.initial.stamp l.initial.dist l.initial.order l.t l.stamp l.via l.dist l.order l.key l.root l.r l.s l.d l.w 1 l.x
+
+abbrev pub decreases-loop-x : goal.decreases-loop-x
+decreases-loop-x l = l.x

@@ -1,0 +1,10 @@
+use native.Mathlib.Omega.{arith}
+use Prim.Native.Nat.{◌≤◌, ◌-◌}
+use Rattle.search.specs.Reach.{NoGoal, no_goal_more, goals_none, goals_found}
+use Rattle.search.proofs.last_goal.Given as goal
+
+abbrev pub invariant-loop-k : goal.invariant-loop-k
+invariant-loop-k l = (l.lo ≤ l.k) × (l.k ≤ l.hi) × NoGoal l.order l.goal l.hi l.k
+
+abbrev pub decreases-loop-k : goal.decreases-loop-k
+decreases-loop-k l = l.k
