@@ -1,0 +1,26 @@
+-- `ticket::flag_counts` meets its contract. The invariant: the flags of the events so far are counted. Assumes nothing.
+use Prim.Native.Nat.{ℕ, ◌-◌, ◌≤◌}
+use mathlib.Core.Path.{◌≡◌, refl, sym, ap, ◌∙◌}
+use mathlib.Core.Bool.{Bool, cond, ◌&&◌}
+use native.Mathlib.Omega.{arith}
+use lib.Dec.{eqb, ltb}
+use lib.ListN.{get_or}
+use Rattle.temporal.specs.Lists.{tab}
+use Rattle.temporal.specs.Plan.{raise}
+use Rattle.ticket.specs.Format.{flag_counts}
+use Rattle.ticket.specs.Writing.{firsts}
+use Rattle.ticket.specs.WritingLaws.{length_firsts, counts_few, counts_next}
+use Rattle.ticket.proofs.flag_counts.Goals as goal
+
+pub loop-i-init : goal.loop-i-init
+unfolding firsts tab
+loop-i-init c = (omega arith, refl)
+
+pub loop-i-preserved : goal.loop-i-preserved
+loop-i-preserved c = let a = c.args in
+    let l = c.loop-i in
+    let g : ℕ → ℕ = λ j. get_or a.t1 j 0 in
+    let f : ℕ → Bool = λ j. eqb (get_or a.t2 j 0) 1 in (
+      omega arith,
+      c.count_flag.ensures ∙ ap (λ ks. cond (f l.i && ltb (g l.i) 5) (raise ks (g l.i)) ks) l.invariant.1 ∙ sym (counts_next l.i g f),
+    )
