@@ -3,7 +3,7 @@ ghost use Rattle.std.specs.Prelude.{◌≡◌, length, take};
 ghost use Rattle.script.specs.Lent.{Decides, untouched, holding, left_at, Cleared};
 
 // What holds between cases: the length of the kept bytes, and how much output and scratch is lent.
-#[derive(Drop)]
+#[derive(Clone, Copy)]
 pub struct State {
     pub kept: usize,
     pub out: usize,
