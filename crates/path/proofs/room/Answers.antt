@@ -1,13 +1,7 @@
 -- `room` meets its contract. The invariant: the way from start to cur has room for f. The measure is the stamp of cur.
-use lib.ListN.{get_or}
-use Rattle.edge.specs.Limit.{EdgePlace}
-use Rattle.path.specs.Way.{roaming_none, roaming_place, roaming_more}
+use Rattle.path.specs.Way.{roaming_none, roaming_more}
 use Rattle.path.proofs.room.Goals as goal
 use Rattle.path.proofs.room.Goals.{In-loop-cur}
-
--- the edge that a turn takes
-edge : (c : In-loop-cur) → EdgePlace c.args.net.now (get_or c.args.via.now c.loop-cur.cur 0)
-edge c = roaming_place c.requires.network c.requires.linked c.loop-cur-test.true c.loop-cur.invariant
 
 pub loop-cur-init : goal.loop-cur-init
 loop-cur-init c = let s = c.requires.start_lt_nodes in
