@@ -1,5 +1,5 @@
 -- `script::bytes` is safe and ends. Assumes nothing.
-use Rattle.std.proofs.Common.{◌≡◌, ◌-◌, ◌≤◌, length, rules}
+use Rattle.std.proofs.Common.{◌≡◌, ◌-◌, ◌≤◌, length}
 use Rattle.script.proofs.bytes.Given as goal
 
 abbrev pub invariant-loop-at : goal.invariant-loop-at

@@ -1,6 +1,6 @@
 -- `script::copy` meets its contract. The invariant: the output holds the bytes passed at its start. Assumes nothing.
-use Rattle.std.proofs.Common.{◌≡◌, ◌-◌, ◌≤◌, length, refl, ap, ◌∙◌, arith, length-set, rules}
-use Rattle.script.specs.Lent.{front, holding, front_more}
+use Rattle.std.proofs.Common.{◌≡◌, ap, ◌∙◌, arith}
+use Rattle.script.specs.Lent.{front, holding}
 use Rattle.script.proofs.copy.Goals as goal
 
 pub returns : goal.returns

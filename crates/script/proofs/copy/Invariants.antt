@@ -1,5 +1,5 @@
-use Rattle.std.proofs.Common.{◌≡◌, ◌-◌, ◌≤◌, length, refl, ap, ◌∙◌, arith, length-set, rules}
-use Rattle.script.specs.Lent.{front, holding, front_more}
+use Rattle.std.proofs.Common.{◌≡◌, ◌-◌, ◌≤◌, length}
+use Rattle.script.specs.Lent.{front}
 use Rattle.script.proofs.copy.Given as goal
 
 abbrev pub invariant-loop-i : goal.invariant-loop-i

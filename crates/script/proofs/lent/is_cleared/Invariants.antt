@@ -1,5 +1,5 @@
-use Rattle.std.proofs.Common.{◌≡◌, ℕ, ◌-◌, ◌<◌, ◌≤◌, length, get_or, sym, refl, ◌∙◌, ⊎_elim, eq-or-lt_of_le, arith, rules}
-use Rattle.script.specs.Lent.{left_at, decides_not}
+use Rattle.std.proofs.Common.{◌≡◌, ℕ, ◌-◌, ◌<◌, ◌≤◌, length, get_or}
+use Rattle.script.specs.Lent.{left_at}
 use Rattle.script.proofs.lent.is_cleared.Given as goal
 
 abbrev pub invariant-loop-i : goal.invariant-loop-i
