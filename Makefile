@@ -18,7 +18,9 @@ ROSTER = examples/roster.names
 STOPS =
 export BY = shutter 6..10, shutter 10..10
 export DEVICE = camera
-ARCHIVE = target/staticlib/libbeyunlak.a
+# where rt puts what it builds; target/ holds what is made here
+ARCHIVE = crates/beyunlak/out/libbeyunlak.a
+PLANNER = crates/planner/out/planner
 
 ifneq ($(filter-out 1,$(STOPS)),)
 $(error STOPS=$(STOPS): it is 1 or left out)
@@ -27,47 +29,51 @@ endif
 all: library program
 
 library:
-	rt staticlib beyunlak
+	cd crates/beyunlak && rt lib
 
+# rt builds a program to run it; it runs on the input that is stored beside it
 program:
-	rt check planner
+	cd crates/planner && rt run <stdin >/dev/null
 
-plan: program
+target:
+	mkdir -p target
+
+plan: program | target
 	tools/ticket encode $(TICKET) target/ticket
-	target/bin/planner <target/ticket
+	$(PLANNER) <target/ticket
 
-latest: program
+latest: program | target
 	tools/ticket encode $(TICKET) target/ticket
-	target/bin/planner latest <target/ticket
+	$(PLANNER) latest <target/ticket
 
-commit: library
+commit: library | target
 	$(CC) -std=c99 -O2 -Iinclude examples/commit.c $(ARCHIVE) -o target/commit
 	tools/ticket encode $(TICKET) target/ticket
 	by=$$(tools/ticket by $(TICKET) "$$BY") && target/commit $$by <target/ticket | tools/ticket commits $(TICKET)
 
-view: library
+view: library | target
 	$(CC) -std=c99 -O2 -Iinclude examples/view.c $(ARCHIVE) -o target/view
 	tools/ticket encode $(TICKET) target/ticket
 	by=$$(tools/ticket by $(TICKET) "$$BY") && target/view $$by <target/ticket | tools/ticket views $(TICKET)
 
-table: library
+table: library | target
 	$(CC) -std=c99 -O2 -Iinclude examples/table.c $(ARCHIVE) -o target/table
 	tools/ticket encode $(TICKET) target/ticket
 	target/table $(if $(STOPS),stops )<target/ticket | tools/ticket $(if $(STOPS),stops,table) $(TICKET)
 
 # without a TICKET one that has no schedule
 reason mend: TICKET = examples/tickets/p6-impossible.txt
-reason: library
+reason: library | target
 	$(CC) -std=c99 -O2 -Iinclude examples/reason.c $(ARCHIVE) -o target/reason
 	tools/ticket encode $(TICKET) target/ticket target/labels
 	target/reason target/labels $(ROSTER) target/ticket | tools/ticket reason $(TICKET)
 
-mend: library
+mend: library | target
 	$(CC) -std=c99 -O2 -Iinclude examples/mend.c $(ARCHIVE) -o target/mend
 	tools/ticket encode $(TICKET) target/ticket
 	target/mend target/mended <target/ticket | tools/ticket mended $(TICKET)
 
-part: library
+part: library | target
 	$(CC) -std=c99 -O2 -Iinclude examples/part.c $(ARCHIVE) -o target/part
 	tools/ticket encode $(TICKET) target/ticket
 	device=$$(tools/ticket device "$$DEVICE") && target/part $$device <target/ticket | tools/ticket part $(TICKET)

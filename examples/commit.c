@@ -10,7 +10,7 @@
  * then a line for each event: its number, 1 if it is committed and 0 if it is free, open and close. A ticket that has
  * no plan prints "refused" and the number.
  *
- *     cc -std=c99 -Iinclude examples/commit.c target/staticlib/libbeyunlak.a -o commit
+ *     cc -std=c99 -Iinclude examples/commit.c crates/beyunlak/out/libbeyunlak.a -o commit
  *     ./commit [CALLER EVENT OPEN CLOSE].. <TICKET
  */
 #include <stdio.h>

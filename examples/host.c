@@ -2,7 +2,7 @@
  * prints the windows and each device's count of accepted commitments each time, shows two commitments that are
  * refused, lets the lamps commit event 2, and prints the latest plan of the same ticket.
  *
- *     cc -std=c99 -Iinclude examples/host.c target/staticlib/libbeyunlak.a -o host && ./host
+ *     cc -std=c99 -Iinclude examples/host.c crates/beyunlak/out/libbeyunlak.a -o host && ./host
  */
 #include <stdio.h>
 #include <string.h>

@@ -2,7 +2,7 @@
  * MENDED, and prints a line "dropped" with the numbers of the dropped rules; or it prints "refused" and the number.
  * tools/ticket makes the ticket from text (`encode`), and from its text and the numbers the mended text (`mended`).
  *
- *     cc -std=c99 -Iinclude examples/mend.c target/staticlib/libbeyunlak.a -o mend && ./mend MENDED <TICKET
+ *     cc -std=c99 -Iinclude examples/mend.c crates/beyunlak/out/libbeyunlak.a -o mend && ./mend MENDED <TICKET
  */
 #include <stdio.h>
 

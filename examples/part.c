@@ -4,7 +4,7 @@
  * number. tools/ticket makes the ticket from text (`encode`) and the number from a device's name (`device`), and puts
  * names to what is printed (`part`).
  *
- *     cc -std=c99 -Iinclude examples/part.c target/staticlib/libbeyunlak.a -o part && ./part DEVICE <TICKET
+ *     cc -std=c99 -Iinclude examples/part.c crates/beyunlak/out/libbeyunlak.a -o part && ./part DEVICE <TICKET
  */
 #include <stdio.h>
 

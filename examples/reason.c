@@ -3,7 +3,7 @@
  * or comes from standard input. tools/ticket makes all three from text: `encode` the ticket and its labels, `list` the
  * roster.
  *
- *     cc -std=c99 -Iinclude examples/reason.c target/staticlib/libbeyunlak.a -o reason
+ *     cc -std=c99 -Iinclude examples/reason.c crates/beyunlak/out/libbeyunlak.a -o reason
  *     ./reason LABELS ROSTER [TICKET]
  */
 #include <stdio.h>

@@ -3,7 +3,7 @@
  * `stops` it prints the working tables, before the first stop and after each: a line with the number of stops, then
  * the rows, with "none" where there is no path yet.
  *
- *     cc -std=c99 -Iinclude examples/table.c target/staticlib/libbeyunlak.a -o table && ./table [stops] <TICKET
+ *     cc -std=c99 -Iinclude examples/table.c crates/beyunlak/out/libbeyunlak.a -o table && ./table [stops] <TICKET
  */
 #include <stdio.h>
 #include <string.h>

@@ -8,7 +8,7 @@
  * event that it sees: the event's number, 1 if it is committed and 0 if it is free, open and close. The database sees
  * all events, each other device its own. A ticket that has no plan prints "refused" and the number.
  *
- *     cc -std=c99 -Iinclude examples/view.c target/staticlib/libbeyunlak.a -o view
+ *     cc -std=c99 -Iinclude examples/view.c crates/beyunlak/out/libbeyunlak.a -o view
  *     ./view [CALLER EVENT OPEN CLOSE].. <TICKET
  */
 #include <stdio.h>

@@ -1,11 +1,11 @@
 #!/bin/sh
 # Runs what a user runs: the program over stored answers, the text tool, the example programs and the C header.
-# Needs target/bin/planner (rt check planner) and target/staticlib/libbeyunlak.a (rt staticlib beyunlak); $PLANNER
-# and $LIBRARY name others. The last line is 'N passed, M failed'.
+# Needs crates/planner/out/planner (rt run there, or rt ci) and crates/beyunlak/out/libbeyunlak.a (rt lib there);
+# $PLANNER and $LIBRARY name others. The last line is 'N passed, M failed'.
 set -u
 cd "$(dirname "$0")/../.." || exit 2
-planner=${PLANNER:-target/bin/planner}
-library=${LIBRARY:-target/staticlib/libbeyunlak.a}
+planner=${PLANNER:-crates/planner/out/planner}
+library=${LIBRARY:-crates/beyunlak/out/libbeyunlak.a}
 here=tests/programs
 work=$(mktemp -d) || exit 2
 trap 'rm -rf "$work"' EXIT
@@ -1431,6 +1431,8 @@ arrays=$PWD/tools/arrays
 while IFS='|' read -r name file edit wanted; do
     mv "$work/tree/$file" "$work/kept"
     sed "$edit" "$work/kept" >"$work/tree/$file"
+    # an edit whose text is gone would show nothing
+    if [ -n "$edit" ] && cmp -s "$work/kept" "$work/tree/$file"; then fail "arrays, $name: the edit changes nothing"; fi
     (cd "$work/tree" && "$arrays") >"$work/got" 2>&1
     status=$?
     mv "$work/kept" "$work/tree/$file"
@@ -1444,7 +1446,7 @@ as they are|crates.txt||
 a parameter of 401 bytes|crates/lift/src/lib.rt|s/queue: &mut \[u8; 400\],/queue: \&mut [u8; QUEUE + 1],/|crates/lift/src/lib.rt:[0-9]*: an array of 401 numbers, above 400
 20 arrays of 21 numbers|crates/flow/src/lib.rt|s/let none = \[0u32; 81\];/&let more = [[0u32; 21]; 20];/|crates/flow/src/lib.rt:[0-9]*: an array whose size is not told
 a size that is not told|crates/flow/src/lib.rt|s/let none = \[0u32; 81\];/&let more = [0u32; MORE];/|crates/flow/src/lib.rt:[0-9]*: an array whose size is not told
-a comment and a contract|crates/edge/src/lib.rt|s/^    requires {.*/&  requires { [0; 500] } \/\/ [0u32; 500]/|
+a comment and a contract|crates/edge/src/lib.rt|s/^    requires \([a-z0-9_]* \)\?{.*/&  requires { [0; 500] } \/\/ [0u32; 500]/|
 a crate more below plan|crates.txt|s/^causes: /&part_windows /|crates/part_windows/src/lib.rt:[0-9]*: an array of 7,364 numbers, above 400
 an array that is not in the table|docs/WHAT-IS-PROVED.md|s/81 in `weight`; \(400 in `tails`\)/\1/|docs/WHAT-IS-PROVED.md: no row | `windows` | `widest` | 81 in `weight`; 400 in `tails`, `heads` |
 an array that is not in the code|docs/WHAT-IS-PROVED.md|s/256 in `bounds`/&, `more`/|docs/WHAT-IS-PROVED.md: not what the code has: | `mirror` | `mirror_bounds` | 256 in `bounds`, `more` |

@@ -148,7 +148,7 @@ extern "C" {
 }
 
 /// The program, from the root of the repository, where tests/run starts this one.
-const PLANNER: &str = "target/bin/planner";
+const PLANNER: &str = "crates/planner/out/planner";
 
 /// What the program prints: standard output, then standard error, which has to stay empty, and a status that is not 0.
 fn run_planner(prefer: Prefer, ticket: &[u8]) -> std::io::Result<String> {

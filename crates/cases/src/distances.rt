@@ -3,6 +3,7 @@
 ghost use Rattle.std.specs.Prelude.{◌≤◌, ◌≡◌, length};
 
 use script::{lent, print};
+use std::io;
 
 fn numbers() -> [i32; 1700]
     ensures { 1700 ≡ length result }
@@ -35,13 +36,14 @@ fn changed(out: &[i32]) -> usize
 }
 
 // Print a table: all numbers up to the last that has changed, which is a 0.
-fn show(out: &[i32]) {
+fn show(rt: &impl Print, out: &[i32]) -> io::Result<()> {
     let n = changed(out);
     let mut i = 0;
     while i < n {
-        print::signed(bits(out[i]));
+        print::signed(rt, bits(out[i]))?;
         i += 1;
     }
+    Ok(())
 }
 
 // The rules are as many as the shortest of the three slices has.
@@ -77,9 +79,9 @@ fn answer_in(input: &[u8], room: usize, out: &mut [i32]) -> u32 {
     answer(input, &mut out[..n])
 }
 
-pub fn table(input: &[u8], room: usize) {
+pub fn table(rt: &impl Print, input: &[u8], room: usize) -> io::Result<()> {
     let mut out = numbers();
-    print::number(answer_in(input, room, &mut out));
-    show(&out);
-    print::end(true);
+    print::number(rt, answer_in(input, room, &mut out))?;
+    show(rt, &out)?;
+    print::end(rt, true)
 }

@@ -1,6 +1,6 @@
 // Runs the cases of the script on standard input, a line each, and prints for each its name and what the call answers; "memory" follows where a
 // byte or a number is not what it must be after the call. The script says at its top how its lines are read.
-// Rests on crate `script` for the lines and on crate `forms`, `distances` and `planning` for the calls.
+// Rests on crate `script` for the lines, on crate `forms`, `distances` and `planning` for the calls and on crate `streams` for reading.
 
 #![tactic(auto)]
 
@@ -11,6 +11,7 @@ ghost use Rattle.std.specs.Prelude.{◌≤◌, length};
 
 use script::lent::State;
 use script::{lent, print};
+use std::io;
 
 // Numbers of the calls `commit` and `lend` have four bytes where the script says nothing, those of others one.
 fn usual(letter: u8) -> usize {
@@ -20,51 +21,51 @@ fn usual(letter: u8) -> usize {
     }
 }
 
-fn keep(input: &[u8], kept: &mut [u8], s: State) -> State {
+fn keep(rt: &impl Print, input: &[u8], kept: &mut [u8], s: State) -> io::Result<State> {
     let n = script::copy(input, kept);
-    print::length(n);
-    print::end(true);
-    State {
+    print::length(rt, n)?;
+    print::end(rt, true)?;
+    Ok(State {
         kept: n,
         out: s.out,
         scratch: s.scratch,
-    }
+    })
 }
 
-fn lend(input: &[u8], s: State) -> State {
-    print::end(true);
-    State {
+fn lend(rt: &impl Print, input: &[u8], s: State) -> io::Result<State> {
+    print::end(rt, true)?;
+    Ok(State {
         kept: s.kept,
         out: script::four(input, 0) as usize,
         scratch: script::four(input, 4) as usize,
-    }
+    })
 }
 
 // The calls that change nothing.
-fn try_call(letter: u8, input: &[u8], kept: &[u8], out: usize) {
+fn try_call(rt: &impl Print, letter: u8, input: &[u8], kept: &[u8], out: usize) -> io::Result<()> {
     match letter {
-        b'r' => forms::read(input, input),
-        b'o' => forms::read(input, kept),
-        b'e' => forms::every(input),
-        b'w' => forms::write(input, out),
-        _ => distances::table(input, out),
+        b'r' => forms::read(rt, input, input),
+        b'o' => forms::read(rt, input, kept),
+        b'e' => forms::every(rt, input),
+        b'w' => forms::write(rt, input, out),
+        _ => distances::table(rt, input, out),
     }
 }
 
-fn call(letter: u8, input: &[u8], kept: &mut [u8], s: State) -> State {
+fn call(rt: &impl Print, letter: u8, input: &[u8], kept: &mut [u8], s: State) -> io::Result<State> {
     match letter {
-        b'k' => keep(input, kept, s),
-        b'l' => lend(input, s),
-        b'p' | b'u' | b'c' => planning::call(letter, input, kept, s),
+        b'k' => keep(rt, input, kept, s),
+        b'l' => lend(rt, input, s),
+        b'p' | b'u' | b'c' => planning::call(rt, letter, input, kept, s),
         _ => {
-            try_call(letter, input, lent::part(kept, s.kept), s.out);
-            s
+            try_call(rt, letter, input, lent::part(kept, s.kept), s.out)?;
+            Ok(s)
         }
     }
 }
 
 // The call at a place of a line, with the bytes of the words after it.
-fn answer(line: &[u8], at: usize, kept: &mut [u8], s: State) -> State
+fn answer(rt: &impl Print, line: &[u8], at: usize, kept: &mut [u8], s: State) -> io::Result<State>
     requires { at ≤ length line.now }
 {
     let letter = script::byte(line, at);
@@ -77,22 +78,22 @@ fn answer(line: &[u8], at: usize, kept: &mut [u8], s: State) -> State
         lent::part(kept, s.kept),
         &mut input,
     );
-    call(letter, lent::part(&input, n), kept, s)
+    call(rt, letter, lent::part(&input, n), kept, s)
 }
 
 // A line that begins with # and an empty one are no cases. Others have a name up to a colon, a space and the call.
-fn case(line: &[u8], kept: &mut [u8], s: State) -> State {
+fn case(rt: &impl Print, line: &[u8], kept: &mut [u8], s: State) -> io::Result<State> {
     match script::byte(line, 0) {
-        b'\n' | b'#' => s,
+        b'\n' | b'#' => Ok(s),
         _ => {
             let colon = script::after(line, 0, b':');
-            io::write_all(libc::STDOUT_FILENO, lent::part(line, colon));
-            answer(line, script::after(line, colon, b' '), kept, s)
+            rt.write_all(lent::part(line, colon))?;
+            answer(rt, line, script::after(line, colon, b' '), kept, s)
         }
     }
 }
 
-fn run(text: &[u8], kept: &mut [u8]) {
+fn run(rt: &impl Print, text: &[u8], kept: &mut [u8]) -> io::Result<()> {
     let mut s = State {
         kept: 0,
         out: 2048,
@@ -101,14 +102,15 @@ fn run(text: &[u8], kept: &mut [u8]) {
     let mut at = 0;
     while at < text.len() {
         let end = script::after(text, at, b'\n');
-        s = case(&text[at..end], kept, s);
+        s = case(rt, &text[at..end], kept, s)?;
         at = end;
     }
+    Ok(())
 }
 
-fn main() {
-    let mut text = io::large_buffer();
-    let n = io::read_full(libc::STDIN_FILENO, &mut text);
+fn main(rt: HostRuntime) -> io::Result<()> {
+    let mut text = streams::large_buffer();
+    let n = streams::read_full(&mut rt.stdin(), &mut text);
     let mut kept = lent::output();
-    run(&text[..n], &mut kept);
+    run(&rt, &text[..n], &mut kept)
 }

@@ -3,68 +3,69 @@
 
 #![tactic(auto)]
 
-ghost use Rattle.std.specs.Prelude.{◌≤◌, ◌≡◌, length, take};
+ghost use Rattle.std.specs.Prelude.{◌≤◌, ◌≡◌, length, take, IfOk};
 ghost use Rattle.script.specs.Lent.{Decides, untouched, holding};
 
 use script::{lent, print};
+use std::io;
 use ticket::{Record, Ticket, Written};
 
 // ---- writing
 
 // The number and the length, and whether the output is right: the first of the bytes expected, or as it was.
-fn say_written(w: Written, expected: &[u8], out: &[u8]) -> bool
-    ensures { Decides result (out.now ≡ holding (take w.length expected.now) untouched) }
+fn say_written(rt: &impl Print, w: Written, expected: &[u8], out: &[u8]) -> io::Result<bool>
+    ensures { IfOk result (λ right. Decides right (out.now ≡ holding (take w.length expected.now) untouched)) }
 {
-    print::number(w.number);
-    print::length(w.length);
-    lent::written(lent::part(expected, w.length), out)
+    print::number(rt, w.number)?;
+    print::length(rt, w.length)?;
+    Ok(lent::written(lent::part(expected, w.length), out))
 }
 
-fn write_ticket(t: Ticket, expected: &[u8], room: usize) -> bool
+fn write_ticket(rt: &impl Print, t: Ticket, expected: &[u8], room: usize) -> io::Result<bool>
     requires { room ≤ 2048 }
 {
     let mut out = lent::output();
     let w = writing::write_ticket(t, &mut out[..room]);
-    say_written(w, expected, &out)
+    say_written(rt, w, expected, &out)
 }
 
-fn write_record(r: Record, expected: &[u8], room: usize) -> bool
+fn write_record(rt: &impl Print, r: Record, expected: &[u8], room: usize) -> io::Result<bool>
     requires { room ≤ 2048 }
 {
     let mut out = lent::output();
     let w = writing_records::write_record(r, &mut out[..room]);
-    say_written(w, expected, &out)
+    say_written(rt, w, expected, &out)
 }
 
 // ---- reading, and writing what was read
 
 // The input as a ticket; whether what is written of it are the bytes expected.
-fn read_ticket(input: &[u8], expected: &[u8]) -> bool {
+fn read_ticket(rt: &impl Print, input: &[u8], expected: &[u8]) -> io::Result<bool> {
     let r = reading::read_ticket(input);
-    print::number(r.number);
+    print::number(rt, r.number)?;
     if r.number == 0 {
-        write_ticket(r.ticket, expected, 2048)
+        write_ticket(rt, r.ticket, expected, 2048)
     } else {
-        true
+        Ok(true)
     }
 }
 
 // The same as a record.
-fn read_record(input: &[u8], expected: &[u8]) -> bool {
+fn read_record(rt: &impl Print, input: &[u8], expected: &[u8]) -> io::Result<bool> {
     let r = reading_records::read_record(input);
-    print::number(r.number);
+    print::number(rt, r.number)?;
     if r.number == 0 {
-        write_record(r.plan, expected, 2048)
+        write_record(rt, r.plan, expected, 2048)
     } else {
-        true
+        Ok(true)
     }
 }
 
 // What is written of what was read is the input, unless a case expects other bytes, to fail.
-pub fn read(input: &[u8], expected: &[u8]) {
-    let ticket = read_ticket(input, expected);
-    let record = read_record(input, expected);
-    print::end(ticket & record);
+pub fn read(rt: &impl Print, input: &[u8], expected: &[u8]) -> io::Result<()> {
+    let ticket = read_ticket(rt, input, expected)?;
+    let record = read_record(rt, input, expected)?;
+    print::end(rt, ticket & record)
 }
 
 // ---- parts
@@ -89,10 +90,10 @@ fn cut(as_record: bool, s: &[u8]) -> usize {
     n
 }
 
-pub fn every(input: &[u8]) {
-    print::length(cut(false, input));
-    print::length(cut(true, input));
-    print::end(true);
+pub fn every(rt: &impl Print, input: &[u8]) -> io::Result<()> {
+    print::length(rt, cut(false, input))?;
+    print::length(rt, cut(true, input))?;
+    print::end(rt, true)
 }
 
 // ---- writing values that no reading gives
@@ -212,9 +213,9 @@ fn record_of(s: &[u8]) -> Record {
     }
 }
 
-pub fn write(input: &[u8], room: usize) {
+pub fn write(rt: &impl Print, input: &[u8], room: usize) -> io::Result<()> {
     let n = script::least(room, 2048);
-    let ticket = write_ticket(ticket_of(input), input, n);
-    let record = write_record(record_of(input), input, n);
-    print::end(ticket & record);
+    let ticket = write_ticket(rt, ticket_of(input), input, n)?;
+    let record = write_record(rt, record_of(input), input, n)?;
+    print::end(rt, ticket & record)
 }

@@ -7,7 +7,7 @@ use Rattle.std.proofs.Math.Decide.{ℕ_discrete, dec_lt}
 use Rattle.network.specs.Lists.{set_more}
 use Rattle.network.specs.Network.{Meets}
 use Rattle.network.specs.Stored.{at, tail_of, head_of, cost_of, stored, Demand, Network, Potential}
-use Rattle.network.specs.Index.{end_of, Last, Index, box_edge, Listed, Unlisted}
+use Rattle.network.specs.Index.{end_of, Last, box_edge, Listed, Unlisted}
 use Rattle.network.specs.Grow.{Impossible}
 
 -- ---- what the functions promise

@@ -12,7 +12,7 @@ use Rattle.temporal.specs.Bound.{AtMost, above, below, signed}
 use Rattle.temporal.specs.Ticket.{Rule, Ticket, events, time, Schedule, Window, Fit, fits}
 use Rattle.temporal.specs.Ends.{fits_fit, fit_fits}
 use Rattle.temporal.specs.Best.{best, best_latest, Chosen, chosen_best, chosen_under}
-use Rattle.temporal.specs.Distance.{consistent}
+use Rattle.temporal.specs.Distance.{consistent, consistent_same}
 use Rattle.temporal.specs.Plan.{Answer, refused, accepted, planned, plan, planned_latest, plan_latest}
 use Rattle.temporal.specs.FitSets.{fits_closed}
 use Rattle.temporal.specs.Run.{ValidRule, Valid}

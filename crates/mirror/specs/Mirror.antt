@@ -4,7 +4,7 @@ use Rattle.std.specs.Prelude.{◌≡◌, refl, Bool, true, false, not, cond, Lis
 use Rattle.std.proofs.Common.{sym, ap₂, subst, subst₂, ◌∙◌, arith, ltb→lt, nltb→le}
 use Rattle.std.proofs.Math.IntN.{sub_ℕ, +ℤ-neg_ℤ_cancel, -ℤ-+ℤ_cancel}
 use Rattle.std.proofs.lemmas.List.{length-map}
-use Rattle.temporal.specs.Lists.{All, All-map, All-map₂, map-All, All-mapped, All-at, at-All, ∈-All}
+use Rattle.temporal.specs.Lists.{All, All-map, All-map₂, map-All, All-at, at-All, ∈-All}
 use Rattle.temporal.specs.Bound.{AtMost, above, below, signed}
 use Rattle.temporal.specs.Ticket.{Rule, Ticket, events, Distinct, time, Schedule, Window, origin, window_of, Lies, Fit, weight, total_of}
 use Rattle.temporal.specs.Ends.{Ends, ends_fit, fit_ends}

@@ -1,9 +1,9 @@
 -- Rules stored as edges of a window network, one after the other. Rests on `network` for stored edges and on `closure` for the entries.
-use Rattle.std.specs.Prelude.{◌≡◌, refl, List, [], ◌∷◌, ◌++◌, ℕ, zero, suc, ◌+◌, ◌*◌, ◌-◌, ◌≤◌, ◌<◌, ℤ, length, get_or}
+use Rattle.std.specs.Prelude.{◌≡◌, List, [], ◌∷◌, ◌++◌, ℕ, zero, suc, ◌+◌, ◌*◌, ◌-◌, ◌≤◌, ◌<◌, ℤ, length, get_or}
 use Rattle.std.proofs.Common.{subst, sym, ap, ◌∙◌, ⊎_elim, arith, length-append, get_or-append-add}
 use Rattle.std.proofs.Math.ListN.{get_or-append}
 use Rattle.temporal.specs.Lists.{below_or_not}
-use Rattle.temporal.specs.Bound.{above, below, biased}
+use Rattle.temporal.specs.Bound.{biased}
 use Rattle.temporal.specs.DistanceLaws.{parts}
 use Rattle.temporal.specs.Ticket.{Rule}
 use Rattle.network.specs.Stored.{at}

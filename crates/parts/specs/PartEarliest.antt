@@ -2,7 +2,7 @@
 use Rattle.std.specs.Prelude.{◌≡◌, refl, Bool, true, false, cond, List, T, ltb, pos, negsuc, length}
 use Rattle.std.proofs.Math.Path.{sym}
 use Rattle.std.proofs.Common.{ap, ◌∙◌, arith, lt→ltb}
-use Prim.Native.Nat.{ℕ, zero, suc, ◌+◌, ◌-◌, ◌≤◌}
+use Prim.Native.Nat.{ℕ, zero, suc, ◌-◌, ◌≤◌}
 use Rattle.std.proofs.Math.IntN.{sub_ℕ}
 use Rattle.temporal.specs.Lists.{tab, length_tab, get_d_tab, All-tab}
 use Rattle.temporal.specs.Bound.{AtMost, above, below, signed}

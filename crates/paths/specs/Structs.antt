@@ -1,7 +1,6 @@
 -- The rules that a ticket's struct holds, by their numbers. Rests on `ticket`'s `content`, and on Walks.
 use Rattle.std.specs.Prelude.{◌≡◌, ℕ, suc, ◌+◌, ◌*◌, ◌-◌, ◌/◌, ◌%◌, ◌≤◌, ◌<◌, length}
 use Rattle.std.proofs.Common.{sym, ap, ◌∙◌, arith}
-use Rattle.temporal.specs.Ticket.{events}
 use Rattle.ticket.specs.Writing.{rule_in, content}
 use Rattle.ticket.specs.WritingLaws.{get_d_firsts}
 use Rattle.ticket.specs.Content.{in_events, in_rules}

@@ -8,6 +8,10 @@ mod print;
 
 ghost use Rattle.std.specs.Prelude.{◌≡◌, length};
 
+use std::env::FillError;
+use std::io;
+use std::rt::Env;
+
 // The longest ticket, and one byte more: what is longer is refused for that byte.
 fn input() -> [u8; 1585]
     ensures { 1585 ≡ length result }
@@ -22,31 +26,34 @@ fn output() -> [u8; 1842]
     [0u8; 1842]
 }
 
-// Whether the first argument is the word `latest`; one that is longer has length 0 here.
-fn says_latest() -> bool {
+// Whether an argument of this number was given, of any length.
+fn is_given(rt: &impl Env, i: usize) -> bool {
     let mut word = [0u8; 6];
-    let n = os::arg(1, &mut word);
-    check::same(&word[..n], b"latest")
+    !matches!(rt.arg(i, &mut word), Err(FillError::NotPresent))
+}
+
+// Whether the first argument is the word `latest`; one that is longer has length 0 here.
+fn says_latest(rt: &impl Env) -> bool {
+    let mut word = [0u8; 6];
+    let n = rt.arg(1, &mut word).unwrap_or(0);
+    word[..n] == b"latest"[..]
 }
 
 // Plan what stands on standard input, and print it.
-fn run(latest: bool) {
+fn run(rt: HostRuntime, latest: bool) -> io::Result<()> {
     let mut ticket = input();
-    let n = io::read_full(libc::STDIN_FILENO, &mut ticket);
+    let n = streams::read_full(&mut rt.stdin(), &mut ticket);
     let mut text = output();
     let k = print::print(&ticket[..n], latest, &mut text);
-    io::write_all(libc::STDOUT_FILENO, &text[..k]);
+    rt.write_all(&text[..k])
 }
 
-fn main() {
-    let words = os::arg_count();
-    if words < 2 {
-        run(false);
-        return;
+fn main(rt: HostRuntime) -> io::Result<()> {
+    if !is_given(&rt, 1) {
+        return run(rt, false);
     }
-    if words == 2 && says_latest() {
-        run(true);
-        return;
+    if !is_given(&rt, 2) && says_latest(&rt) {
+        return run(rt, true);
     }
-    io::write_all(libc::STDERR_FILENO, b"usage: planner [latest] <ticket\n");
+    eprintln!(rt; "usage: planner [latest] <ticket")
 }

@@ -10,9 +10,8 @@ use Rattle.temporal.specs.Ticket as temporal
 use Rattle.temporal.specs.Ticket.{events}
 use Rattle.temporal.specs.Distance.{consistent}
 use Rattle.temporal.specs.Run.{Valid}
-use Rattle.ticket.specs.Parser.{number}
 use Rattle.ticket.specs.Writing.{content}
-use Rattle.ticket.specs.Stored.{pad, stored, whole_ticket}
+use Rattle.ticket.specs.Stored.{pad, whole_ticket}
 use Rattle.ticket.specs.Content.{read_refused, read_got, read_content}
 use Rattle.ticket.specs.declared.ReadTicket.{ReadTicket}
 use Rattle.text.specs.Stores.{Puts}

@@ -1,5 +1,5 @@
 -- What reading does not refuse is not refused under other numbers: tickets (`valid_in`) and plan records (`readable_in`), which are as long as they were (`size_in`).
-use Rattle.std.specs.Prelude.{◌≡◌, refl, ℕ, ◌≤◌}
+use Rattle.std.specs.Prelude.{◌≡◌, ℕ, ◌≤◌}
 use Rattle.std.proofs.Common.{sym, ap, ◌∙◌, arith}
 use Rattle.std.proofs.lemmas.List.{length-map}
 use Rattle.temporal.specs.Lists.{All-map, map-All}

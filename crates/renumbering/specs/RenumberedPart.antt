@@ -1,6 +1,6 @@
 -- One device's part of a renumbered ticket on bytes (02, changes 8 and 12): the call returns the same number, length and total, and what it writes has the same
 -- events with the same windows, under their new numbers (`renumbered_part`). Both parts rise (`parts`, Parted). Rests on Parts.
-use Rattle.std.specs.Prelude.{◌≡◌, refl, Bool, true, false, List, [], ◌∷◌, ◌++◌, ◌↔◌, ℕ, zero, suc, ◌≤◌, ◌<◌, T, length, take}
+use Rattle.std.specs.Prelude.{◌≡◌, refl, Bool, true, false, List, [], ◌∷◌, ◌↔◌, ℕ, zero, suc, ◌≤◌, ◌<◌, T, length, take}
 use Rattle.std.proofs.Common.{sym, ap, subst, ◌∙◌, ⊎_elim, arith}
 use mathlib.Core.List.Memᴰ
 use Rattle.std.proofs.Math.Seq.{take-append_seam}

@@ -13,7 +13,7 @@ use Rattle.temporal.specs.Answers.{commit_number}
 use Rattle.temporal.specs.Causes.{acceptable, first_refuses, fit_cause}
 use Rattle.temporal.specs.Run as states
 use Rattle.temporal.specs.RunHolds as states_hold
-use Rattle.ticket.specs.Parser.{Cause, Out, number, got, refused, wholly}
+use Rattle.ticket.specs.Parser.{Cause, Out, got, refused, wholly}
 use Rattle.ticket.specs.Laws.{number_some}
 use Rattle.ticket.specs.Format.{read_ticket, read_state}
 use Rattle.ticket.specs.Writer.{write_ticket, write_state}

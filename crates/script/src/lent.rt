@@ -1,10 +1,9 @@
 // What is lent to a call, and what it must hold afterwards.
-// Rests on the library `check` for comparing.
 ghost use Rattle.std.specs.Prelude.{◌≡◌, length, take};
 ghost use Rattle.script.specs.Lent.{Decides, untouched, holding, left_at, Cleared};
 
 // What holds between cases: the length of the kept bytes, and how much output and scratch is lent.
-#[derive(Drop)]
+#[derive(Clone, Copy)]
 pub struct State {
     pub kept: usize,
     pub out: usize,
@@ -40,7 +39,7 @@ pub fn written(bytes: &[u8], out: &[u8]) -> bool
 {
     let mut right = output();
     crate::copy(bytes, &mut right);
-    check::same(out, &right)
+    out == right.as_slice()
 }
 
 // What a number of scratch must be after a call: 10 leaves all as they were, others clear 2,400.

@@ -1,6 +1,5 @@
 // The words of a line of the script of cases, and the bytes that they stand for. A word is a number, `*` for the kept bytes, or `@` and a place to go
 // on at; `:` and a width after a number say how many bytes it has, the lowest first. `lent` has what is lent to a call, `print` what is printed of it.
-// Rests on the libraries `io`, `libc` and `check`.
 
 #![tactic(auto)]
 

@@ -1,31 +1,29 @@
 // Printing.
-// Rests on the library `io`.
-use libc::STDOUT_FILENO;
+use std::io;
 
-pub fn length(n: usize) {
-    io::write_all(STDOUT_FILENO, b" ");
-    io::print_decimal(STDOUT_FILENO, n as u64);
+pub fn length(rt: &impl Print, n: usize) -> io::Result<()> {
+    print!(rt; " {n}")
 }
 
-pub fn number(x: u32) {
-    length(x as usize);
+pub fn number(rt: &impl Print, x: u32) -> io::Result<()> {
+    length(rt, x as usize)
 }
 
 // The number whose two's complement bits are x.
-pub fn signed(x: u32) {
+pub fn signed(rt: &impl Print, x: u32) -> io::Result<()> {
     if x < 2_147_483_648 {
-        number(x);
+        number(rt, x)
     } else {
-        io::write_all(STDOUT_FILENO, b" -");
-        io::print_decimal(STDOUT_FILENO, 4_294_967_296 - x as u64);
+        let least = 4_294_967_296 - x as u64;
+        print!(rt; " -{least}")
     }
 }
 
 // The end of a line; memory that is not as it must be is said.
-pub fn end(right: bool) {
+pub fn end(rt: &impl Print, right: bool) -> io::Result<()> {
     if right {
-        io::write_all(STDOUT_FILENO, b"\n");
+        rt.write_all(b"\n")
     } else {
-        io::write_all(STDOUT_FILENO, b" memory\n");
+        rt.write_all(b" memory\n")
     }
 }

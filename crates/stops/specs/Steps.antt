@@ -7,7 +7,6 @@ use Rattle.temporal.specs.Ticket.{events}
 use Rattle.temporal.specs.Distance.{consistent}
 use Rattle.temporal.specs.Run.{ValidRule, Valid}
 use Rattle.temporal.specs.Table.{rows}
-use Rattle.ticket.specs.Parser.{number}
 use Rattle.ticket.specs.Writing.{rule_in, content}
 use Rattle.ticket.specs.WritingLaws.{firsts_tab}
 use Rattle.ticket.specs.Stored.{whole_ticket}

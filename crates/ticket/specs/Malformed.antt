@@ -6,7 +6,7 @@ use mathlib.Core.List.{List, [], ◌∷◌}
 use mir.Syntax.{w32}
 use mir.Val.{to_z}
 use Rattle.temporal.specs.Ticket.{Rule}
-use Rattle.ticket.specs.Parser.{Cause, horizon, events, owner, rules, points, bound, layout, number, Out, got, refused, Parser, then, ◌>>=◌, ◌>>◌, expect, byte, little, many, end, wholly}
+use Rattle.ticket.specs.Parser.{Cause, horizon, events, owner, rules, points, bound, layout, number, Out, got, refused, Parser, then, ◌>>=◌, expect, byte, little, many, end, wholly}
 use Rattle.ticket.specs.Format.{apart, within, rule_test, read_owner, read_rule, read_ticket}
 use Rattle.ticket.specs.Format.{sound, sound_count, flags_in, flag_counts, read_window, read_same, read_windows, read_count, each_count, read_counts, read_state}
 

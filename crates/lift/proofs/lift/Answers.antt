@@ -1,9 +1,8 @@
 -- `lift` meets its contract: node a is raised, and what follows from it; where that ends the lift, the potential is put back.
 use native.Mathlib.Omega.{arith}
-use borrow.Author.Rules.{rules}
 use Prim.Native.Nat.{ℕ, ◌≤◌, ◌<◌}
 use Rattle.network.specs.Stored.{at, pot_bound}
-use Rattle.lift.specs.Lift.{start_ready, spread_low, lift_held, lift_blocked, lift_given}
+use Rattle.lift.specs.Lift.{start_ready, spread_low, lift_held, lift_blocked}
 use Rattle.lift.proofs.lift.Goals as goal
 use Rattle.lift.proofs.lift.Goals.{Start}
 

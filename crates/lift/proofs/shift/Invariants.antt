@@ -1,7 +1,6 @@
-use native.Mathlib.Omega.{arith}
-use borrow.Author.Rules.{rules}
+-- `shift` meets its contract. The invariant: the nodes below v are lowered, and the others are as they were.
 use Prim.Native.Nat.{◌-◌, ◌≤◌}
-use Rattle.lift.specs.Lift.{Shifting, shifting_start, shifting_more, shifting_done, shifted_none}
+use Rattle.lift.specs.Lift.{Shifting}
 use Rattle.lift.proofs.shift.Given as goal
 
 abbrev pub invariant-loop-v : goal.invariant-loop-v

@@ -1,8 +1,6 @@
 -- `spread` meets its contract. The invariant: the nodes in the queue below s are done.
 use native.Mathlib.Omega.{arith}
-use borrow.Author.Rules.{rules}
-use Prim.Native.Nat.{◌-◌}
-use Rattle.lift.specs.Lift.{Going, going_start, going_next, going_ends, going_done}
+use Rattle.lift.specs.Lift.{going_next, going_ends}
 use Rattle.lift.proofs.spread.Goals as goal
 
 pub returns-then-t-gt-QUEUE : goal.returns-then-t-gt-QUEUE

@@ -1,7 +1,6 @@
-use native.Mathlib.Omega.{arith}
-use borrow.Author.Rules.{rules}
+-- `spread` meets its contract. The invariant: the nodes in the queue below s are done.
 use Prim.Native.Nat.{◌-◌}
-use Rattle.lift.specs.Lift.{Going, going_start, going_next, going_ends, going_done}
+use Rattle.lift.specs.Lift.{Going}
 use Rattle.lift.proofs.spread.Given as goal
 
 abbrev pub invariant-loop-s : goal.invariant-loop-s

@@ -1,7 +1,6 @@
 -- `visit_box` meets its contract: the origin has a box edge of every node, any other node one of its own.
 use native.Mathlib.Omega.{arith}
-use borrow.Author.Rules.{rules}
-use Rattle.lift.specs.Lift.{visit_asks, visit_passes, box_head, box_only}
+use Rattle.lift.specs.Lift.{visit_passes, box_head, box_only}
 use Rattle.lift.proofs.visit_box.Goals as goal
 
 pub returns : goal.returns

@@ -1,18 +1,16 @@
 -- `visit_list` meets its contract. The invariant: of the listed edges into v those below x are left, and x - 1 is the next.
 use native.Mathlib.Omega.{arith}
-use borrow.Author.Rules.{rules}
 use Prim.Native.Nat.{ℕ, ◌+◌, ◌*◌, ◌-◌, ◌≤◌, ◌<◌}
 use mathlib.Core.Path.{◌≡◌}
-use lib.ListN.{length}
 use Rattle.network.specs.Stored.{at, head_of}
-use Rattle.network.specs.Index.{Last, Listed, Unlisted, listing_fits, list_next}
-use Rattle.lift.specs.Lift.{Passes, ListedBelow, visit_asks, visit_passes, passes_none, passes_then, passes_ends, list_first, list_step}
+use Rattle.network.specs.Index.{Last, list_next}
+use Rattle.lift.specs.Lift.{visit_passes, passes_none, passes_then, passes_ends, list_first, list_step}
 use Rattle.lift.proofs.visit_list.Goals as goal
 use Rattle.lift.proofs.visit_list.Goals.{In-loop-x}
 
 -- the edge that a turn visits
-abbrev edge : tie.In-loop invariant-loop decreases-loop → ℕ
-edge c = c.before.loop.x - 1
+abbrev edge : In-loop-x → ℕ
+edge c = c.loop-x.x - 1
 
 edge-listed : (c : In-loop-x) → let a = c.args in (edge c < a.m) × (2 * a.nodes - 2 ≤ edge c) × (head_of a.net.now (edge c) ≡ a.v)
 edge-listed c = let U = c.loop-x.invariant.0 in
@@ -23,11 +21,6 @@ edge-listed c = let U = c.loop-x.invariant.0 in
 edge-next : (c : In-loop-x) → let a = c.args in Last a.net.now (2 * a.nodes - 2) 1 (head_of a.net.now (edge c)) (edge c) (at a.heads.now (81 + (edge c - (2 * a.nodes - 2))))
 edge-next c = let l = edge-listed c in
     c.requires.index.next (edge c) l.1 l.0
-
--- the place of that one
-edge_place : (c : In-loop-x) → let a = c.args in (2 * a.nodes - 2 ≤ edge c) × (81 + (edge c - (2 * a.nodes - 2)) < length a.heads.now)
-edge_place c = let l = edge-listed c in
-    (l.1, omega (arith, l.0, c.requires.index.long))
 
 pub loop-x-init : goal.loop-x-init
 loop-x-init c = let l = list_first (c.requires.index.first c.args.v (omega (arith, c.requires.network.2, c.requires.network.0.few))) in

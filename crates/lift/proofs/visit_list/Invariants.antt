@@ -1,11 +1,7 @@
-use native.Mathlib.Omega.{arith}
-use borrow.Author.Rules.{rules}
-use Prim.Native.Nat.{ℕ, ◌+◌, ◌*◌, ◌-◌, ◌≤◌, ◌<◌}
-use mathlib.Core.Path.{◌≡◌}
-use lib.ListN.{length}
-use Rattle.network.specs.Stored.{at, head_of}
-use Rattle.network.specs.Index.{Last, Listed, Unlisted, listing_fits, list_next}
-use Rattle.lift.specs.Lift.{Passes, ListedBelow, visit_asks, visit_passes, passes_none, passes_then, passes_ends, list_first, list_step}
+-- `visit_list` meets its contract. The invariant: of the listed edges into v those below x are left, and x - 1 is the next.
+use Prim.Native.Nat.{◌*◌, ◌-◌, ◌≤◌}
+use Rattle.network.specs.Index.{Listed, Unlisted}
+use Rattle.lift.specs.Lift.{Passes, ListedBelow}
 use Rattle.lift.proofs.visit_list.Given as goal
 
 abbrev pub invariant-loop-x : goal.invariant-loop-x

@@ -1,7 +1,6 @@
 -- `visit_node` meets its contract: the box edges, and then the others.
 use native.Mathlib.Omega.{arith}
-use borrow.Author.Rules.{rules}
-use Rattle.lift.specs.Lift.{passes_then, passes_ends}
+use Rattle.lift.specs.Lift.{passes_then}
 use Rattle.lift.proofs.visit_node.Goals as goal
 
 pub returns : goal.returns

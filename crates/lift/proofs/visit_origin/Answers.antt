@@ -1,8 +1,6 @@
 -- `visit_origin` meets its contract. The invariant: of the box edges into the origin those from u on are left.
 use native.Mathlib.Omega.{arith}
-use borrow.Author.Rules.{rules}
-use Prim.Native.Nat.{◌-◌, ◌≤◌, ◌<◌}
-use Rattle.lift.specs.Lift.{Passes, AtNode, OriginFrom, visit_asks, visit_passes, passes_none, passes_then, passes_ends, origin_edge, origin_next}
+use Rattle.lift.specs.Lift.{visit_passes, passes_none, passes_then, passes_ends, origin_edge, origin_next}
 use Rattle.lift.proofs.visit_origin.Goals as goal
 
 pub loop-u-init : goal.loop-u-init

@@ -1,7 +1,6 @@
-use native.Mathlib.Omega.{arith}
-use borrow.Author.Rules.{rules}
+-- `visit_origin` meets its contract. The invariant: of the box edges into the origin those from u on are left.
 use Prim.Native.Nat.{◌-◌, ◌≤◌, ◌<◌}
-use Rattle.lift.specs.Lift.{Passes, AtNode, OriginFrom, visit_asks, visit_passes, passes_none, passes_then, passes_ends, origin_edge, origin_next}
+use Rattle.lift.specs.Lift.{Passes, AtNode, OriginFrom}
 use Rattle.lift.proofs.visit_origin.Given as goal
 
 abbrev pub invariant-loop-u : goal.invariant-loop-u

@@ -1,3 +1,4 @@
+-- `boxes` meets its contract. The invariant: the nodes below v have their boxes, and nothing past them is changed.
 use native.Mathlib.Omega.{arith}
 use borrow.Author.Rules.{rules}
 use Prim.Native.Nat.{◌+◌, ◌*◌, ◌-◌, ◌≤◌, ◌<◌}

@@ -1,3 +1,4 @@
+-- `list_edges` meets its contract. The invariant is the contract for the edges passed.
 use native.Mathlib.Omega.{arith}
 use Prim.Native.Nat.{◌≤◌, ◌-◌}
 use mathlib.Core.Path.{◌≡◌, refl, ◌∙◌}

@@ -1,3 +1,4 @@
+-- `scan_heads` meets its contract. The invariant: the edges of the list from x on are visited, and x - 1 is the next.
 use Prim.Native.Nat.{◌*◌, ◌-◌}
 use native.Mathlib.Omega.{arith}
 use mathlib.Core.Path.{refl}

@@ -1,3 +1,4 @@
+-- `scan_origin` meets its contract. The invariant: the box edges of the nodes passed are visited.
 use native.Mathlib.Omega.{arith}
 use Prim.Native.Nat.{◌≤◌, ◌<◌, ◌*◌, ◌-◌}
 use mathlib.Core.Path.{◌≡◌}

@@ -1,8 +1,6 @@
-use native.Mathlib.Omega.{arith}
-use borrow.Author.Rules.{rules}
-use Prim.Native.Nat.{◌+◌, ◌*◌, ◌-◌, ◌<◌}
-use Rattle.search.specs.Reach.{Searching, root_small, searching_start, counts, goal_asks, next_asks, near_asks, near_less, searching_near}
-use Rattle.search.specs.Reach.{scan_asks, scan_less, searching_scan, explored_goal, explored_all}
+-- `explore` meets its contract. Each turn looks at the nodes that were just reached, and then reaches the nearest or scans one.
+use Prim.Native.Nat.{◌+◌, ◌*◌, ◌-◌}
+use Rattle.search.specs.Reach.{Searching}
 use Rattle.search.proofs.explore.Given as goal
 
 abbrev pub invariant-loop-seen : goal.invariant-loop-seen

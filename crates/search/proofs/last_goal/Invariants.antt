@@ -1,6 +1,6 @@
-use native.Mathlib.Omega.{arith}
-use Prim.Native.Nat.{◌≤◌, ◌-◌}
-use Rattle.search.specs.Reach.{NoGoal, no_goal_more, goals_none, goals_found}
+-- `last_goal` meets its contract. The invariant: the places passed have no goal.
+use Prim.Native.Nat.{◌≤◌}
+use Rattle.search.specs.Reach.{NoGoal}
 use Rattle.search.proofs.last_goal.Given as goal
 
 abbrev pub invariant-loop-k : goal.invariant-loop-k

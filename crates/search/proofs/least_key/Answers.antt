@@ -1,9 +1,6 @@
 -- `least_key` meets its contract. The invariant is the contract for the keys passed.
 use native.Mathlib.Omega.{arith}
-use borrow.Author.Rules.{rules}
-use Prim.Native.Nat.{◌≤◌, ◌-◌}
-use mathlib.Core.Path.{◌≡◌}
-use Rattle.search.specs.Nearest.{LeastKey, least_one, least_more}
+use Rattle.search.specs.Nearest.{least_more}
 use Rattle.search.proofs.least_key.Goals as goal
 
 pub loop-v-preserved : goal.loop-v-preserved

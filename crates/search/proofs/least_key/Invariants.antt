@@ -1,8 +1,6 @@
-use native.Mathlib.Omega.{arith}
-use borrow.Author.Rules.{rules}
+-- `least_key` meets its contract. The invariant is the contract for the keys passed.
 use Prim.Native.Nat.{◌≤◌, ◌-◌}
-use mathlib.Core.Path.{◌≡◌}
-use Rattle.search.specs.Nearest.{LeastKey, least_one, least_more}
+use Rattle.search.specs.Nearest.{LeastKey}
 use Rattle.search.proofs.least_key.Given as goal
 
 abbrev pub invariant-loop-v : goal.invariant-loop-v

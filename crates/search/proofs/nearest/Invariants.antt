@@ -1,7 +1,6 @@
-use native.Mathlib.Omega.{arith}
-use borrow.Author.Rules.{rules}
+-- `nearest` meets its contract. The invariant: a node from w on has the least key.
 use Prim.Native.Nat.{◌-◌}
-use Rattle.search.specs.Nearest.{Seek, seek_none, seek_inside, seek_more, seek_done}
+use Rattle.search.specs.Nearest.{Seek}
 use Rattle.search.proofs.nearest.Given as goal
 
 abbrev pub invariant-loop-w : goal.invariant-loop-w

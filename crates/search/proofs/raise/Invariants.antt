@@ -1,9 +1,6 @@
-use native.Mathlib.Omega.{arith}
-use borrow.Author.Rules.{rules}
+-- `raise` meets its contract. The invariant: the nodes passed have moved, and the others are as they were.
 use Prim.Native.Nat.{◌≤◌, ◌-◌}
-use mathlib.Core.Path.{refl}
-use borrow.Author.Count.{below_none}
-use Rattle.search.specs.Raise.{Lifted, lifted_more}
+use Rattle.search.specs.Raise.{Lifted}
 use Rattle.search.proofs.raise.Given as goal
 
 abbrev pub invariant-loop-v : goal.invariant-loop-v

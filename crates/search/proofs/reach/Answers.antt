@@ -1,8 +1,6 @@
 -- `reach` meets its contract: a search, and the potential moved by it, if the search went farther than 0.
-use borrow.Author.Rules.{rules}
 use mathlib.Core.Path.{refl}
 use lib.ListN.{get_or-replicate}
-use Rattle.search.specs.Reach.{explored_here}
 use Rattle.search.proofs.reach.Goals as goal
 
 pub explore-found-requires : goal.explore-found-requires
@@ -11,4 +9,4 @@ explore-found-requires c = let q = c.requires.stamp_len in
 
 pub returns-then-found-gt0 : goal.returns-then-found-gt0
 returns-then-found-gt0 c = let s = c.raise.ensures in
-    (c.explore-found.ensures.outcome _ s.long s.moved, s.rest)
+    record { reached = c.explore-found.ensures.outcome _ s.long s.moved; beyond = s.rest }

@@ -1,13 +1,12 @@
 -- `ticket::flag_counts` meets its contract. The invariant: the flags of the events so far are counted. Assumes nothing.
-use Prim.Native.Nat.{ℕ, ◌-◌, ◌≤◌}
-use mathlib.Core.Path.{◌≡◌, refl, sym, ap, ◌∙◌}
+use Prim.Native.Nat.{ℕ}
+use mathlib.Core.Path.{refl, sym, ap, ◌∙◌}
 use mathlib.Core.Bool.{Bool, cond, ◌&&◌}
 use native.Mathlib.Omega.{arith}
 use lib.Dec.{eqb, ltb}
 use lib.ListN.{get_or}
 use Rattle.temporal.specs.Lists.{tab}
 use Rattle.temporal.specs.Plan.{raise}
-use Rattle.ticket.specs.Format.{flag_counts}
 use Rattle.ticket.specs.Writing.{firsts}
 use Rattle.ticket.specs.WritingLaws.{length_firsts, counts_few, counts_next}
 use Rattle.ticket.proofs.flag_counts.Goals as goal
@@ -16,11 +15,18 @@ pub loop-i-init : goal.loop-i-init
 unfolding firsts tab
 loop-i-init c = (omega arith, refl)
 
+pub count_flag-requires : goal.count_flag-requires
+count_flag-requires c o = let a = c.args in
+    let l = c.loop-i in
+    let owners = firsts l.i (λ j. get_or a.owners j 0) in
+    let few = counts_few o owners (firsts l.i (λ j. eqb (get_or a.flags j 0) 1)) in
+    omega (arith, ap (λ ks. get_or ks o 0) l.invariant.1, few, length_firsts l.i (λ j. get_or a.owners j 0))
+
 pub loop-i-preserved : goal.loop-i-preserved
 loop-i-preserved c = let a = c.args in
     let l = c.loop-i in
-    let g : ℕ → ℕ = λ j. get_or a.t1 j 0 in
-    let f : ℕ → Bool = λ j. eqb (get_or a.t2 j 0) 1 in (
+    let g : ℕ → ℕ = λ j. get_or a.owners j 0 in
+    let f : ℕ → Bool = λ j. eqb (get_or a.flags j 0) 1 in (
       omega arith,
       c.count_flag.ensures ∙ ap (λ ks. cond (f l.i && ltb (g l.i) 5) (raise ks (g l.i)) ks) l.invariant.1 ∙ sym (counts_next l.i g f),
     )

@@ -1,14 +1,10 @@
-use Prim.Native.Nat.{ℕ, ◌-◌, ◌≤◌}
-use mathlib.Core.Path.{◌≡◌, refl, sym, ap, ◌∙◌}
-use mathlib.Core.Bool.{Bool, cond, ◌&&◌}
-use native.Mathlib.Omega.{arith}
-use lib.Dec.{eqb, ltb}
+-- What `flag_counts` keeps true: the flags of the events so far are counted.
+use Prim.Native.Nat.{◌-◌, ◌≤◌}
+use mathlib.Core.Path.{◌≡◌}
+use lib.Dec.{eqb}
 use lib.ListN.{get_or}
-use Rattle.temporal.specs.Lists.{tab}
-use Rattle.temporal.specs.Plan.{raise}
 use Rattle.ticket.specs.Format.{flag_counts}
 use Rattle.ticket.specs.Writing.{firsts}
-use Rattle.ticket.specs.WritingLaws.{length_firsts, counts_few, counts_next}
 use Rattle.ticket.proofs.flag_counts.Given as goal
 
 abbrev pub invariant-loop-i : goal.invariant-loop-i

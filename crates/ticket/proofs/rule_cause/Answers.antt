@@ -5,10 +5,9 @@ use mir.Syntax.{w32}
 use mir.Val.{to_z}
 use Rattle.temporal.specs.Ticket.{Rule}
 use Rattle.ticket.specs.Parser.{number}
-use Rattle.ticket.specs.Signed.{within_low, within_high, within_out}
-use Rattle.ticket.specs.Fields.{apart_from, apart_to, apart_same, apart_yes, points_fail, bound_fails, rule_passes}
+use Rattle.ticket.specs.Signed.{within_out}
+use Rattle.ticket.specs.Fields.{apart_from, apart_to, apart_same, apart_yes, points_fail, bound_fails}
 use Rattle.ticket.specs.Writing.{verdict}
-use borrow.Author.Rules.{rules}
 use Rattle.ticket.proofs.rule_cause.Goals as goal
 
 pub returns-then-n-wide : goal.returns-then-n-wide

@@ -1,0 +1,26 @@
+-- `reading_records::other_at` meets its contract. Each return is one outcome of the parser. Assumes nothing.
+use mathlib.Core.Path.{sym, ap}
+use native.Mathlib.Omega.{arith}
+use lib.ListN.{drop, length-drop}
+use Rattle.ticket.specs.Parser.{number}
+use Rattle.ticket.specs.Laws.{little_short}
+use Rattle.ticket.specs.Writing.{verdict}
+use Rattle.ticket.specs.Stages.{no_number, other_number, same_number}
+use Rattle.reading_records.proofs.other_at.Goals as goal
+
+pub returns-then-s-at-lt2 : goal.returns-then-s-at-lt2
+unfolding number
+returns-then-s-at-lt2 c = let a = c.args in
+    let s = drop a.at a.s.now in
+    ap verdict (sym (no_number a.x s (little_short 2 s (rw length-drop (omega arith)))))
+
+pub returns-then-u16_at-x : goal.returns-then-u16_at-x
+unfolding number
+returns-then-u16_at-x c = let a = c.args in
+    let k = c.u16_at in
+    ap verdict (sym (other_number a.x (drop a.at a.s.now) k.result _ k.ensures c.if-u16_at-x.true))
+
+pub returns : goal.returns
+returns c = let a = c.args in
+    let k = c.u16_at in
+    ap verdict (sym (same_number a.x (drop a.at a.s.now) k.result _ k.ensures c.if-u16_at-x.false))

@@ -1,0 +1,9 @@
+-- `text::put_heading` meets its contract: the word and two parts are a line. Assumes nothing.
+use Rattle.std.proofs.Common.{append_assoc}
+use Rattle.text.specs.Text.{line}
+use Rattle.text.specs.Stores.{puts_then}
+use Rattle.text.proofs.put_heading.Goals as goal
+
+pub returns-clause-puts : goal.returns-clause-puts
+unfolding line
+returns-clause-puts c = simp append_assoc at (puts_then c.put_word-a.ensures (puts_then c.put_part-b.ensures.puts c.put_part.ensures.puts))
