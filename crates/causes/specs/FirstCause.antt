@@ -3,10 +3,10 @@ use Rattle.std.specs.Prelude.{◌≡◌, refl, Bool, true, false, not, cond, ◌
 use Rattle.std.proofs.Math.Path.{sym, ap}
 use Rattle.std.proofs.Common.{◌∙◌, le-ltb, eqb-true}
 use Rattle.std.proofs.Math.Dec.{ltb}
-use Rattle.temporal.specs.Lists.{T-false}
+use Rattle.temporal.proofs.Lists.{T-false}
 use Rattle.temporal.specs.Ticket.{Ticket, fits}
 use Rattle.temporal.specs.Plan.{owner_of, count_of, no_event, is_not_own, cause, asking}
-use Rattle.temporal.specs.Causes.{owned, own_test}
+use Rattle.temporal.proofs.Causes.{owned, own_test}
 use Rattle.network.specs.Stored.{at}
 use Rattle.ticket.specs.Writing.{content, state_of}
 use Rattle.ticket.specs.declared.Record.{Record}

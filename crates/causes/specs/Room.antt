@@ -5,7 +5,7 @@ use Rattle.std.specs.Prelude.{Bool, ◌&&◌, List, ℕ, ◌≤◌, ◌<◌, ltb
 use Rattle.std.proofs.Math.Bool.{true, false, not}
 use Rattle.std.proofs.lemmas.Bool.{lt-leb}
 use Rattle.std.proofs.Math.Dec.{leb, leb→le}
-use Rattle.temporal.specs.Lists.{T-pair, below_or_not}
+use Rattle.temporal.proofs.Lists.{T-pair, below_or_not}
 use Rattle.runs.specs.Calls.{room}
 
 -- a test and its opposite

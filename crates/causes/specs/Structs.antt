@@ -5,23 +5,24 @@ use Rattle.std.proofs.Math.Path.{refl, sym, ap}
 use Rattle.std.proofs.Common.{subst, ◌∙◌, arith, inl, inr, length-append, length-set, get_or-set_other}
 use Rattle.std.proofs.Math.ListN.{length, replicate, length-replicate, length-map}
 use Rattle.std.proofs.Math.Seq.{get_or-append-add}
-use Rattle.temporal.specs.Lists.{below_or_not, by_points, get_d_past}
+use Rattle.temporal.proofs.Lists.{below_or_not, by_points, get_d_past}
 use Rattle.temporal.specs.Ticket as temporal
 use Rattle.temporal.specs.Ticket.{Window, events, origin}
 use Rattle.temporal.specs.Plan.{State, count_of}
 use Rattle.temporal.specs.Run.{Valid, Readable}
 use Rattle.network.specs.Stored.{at}
 use Rattle.network.specs.Lists.{zeros_at}
-use Rattle.ticket.specs.Agree.{field_at, counts_all, state_stored}
+use Rattle.ticket.proofs.Agree.{field_at, counts_all, state_stored}
 use Rattle.ticket.specs.Writing.{firsts, content, state_of, Storable}
-use Rattle.ticket.specs.WritingLaws.{length_firsts, get_d_firsts}
+use Rattle.ticket.proofs.WritingLaws.{length_firsts, get_d_firsts}
 use Rattle.ticket.specs.Parser.{Cause, got, refused, number, wholly}
 use Rattle.ticket.specs.Format.{read_state}
-use Rattle.ticket.specs.Laws.{was_refused, was_got}
-use Rattle.ticket.specs.RoundTrip.{Bytes, written_read_state}
+use Rattle.ticket.proofs.Laws.{was_refused, was_got}
+use Rattle.ticket.specs.RoundTrip.{Bytes}
+use Rattle.ticket.proofs.RoundTrip.{written_read_state}
 use Rattle.ticket.specs.Stored.{pad, stored_state, planned, whole_record}
 use Rattle.ticket.specs.Writer.{flag_byte}
-use Rattle.ticket.specs.Content.{in_events, in_rules}
+use Rattle.ticket.proofs.Content.{in_events, in_rules}
 use Rattle.potentials.specs.Arrays.{window_list, window_at_lem, Lie, Within}
 use Rattle.ticket.specs.declared.Record.{Record}
 use Rattle.ticket.specs.declared.ReadRecord.{ReadRecord}

@@ -10,7 +10,7 @@ use Rattle.temporal.specs.Distance.{consistent, distance}
 use Rattle.temporal.specs.Run.{Valid}
 use Rattle.temporal.specs.Table.{rows}
 use Rattle.closure.specs.Cases.{by_lt}
-use Rattle.temporal.specs.TableRows.{length_rows, rows_first, rows_beyond}
+use Rattle.temporal.proofs.TableRows.{length_rows, rows_first, rows_beyond}
 use Rattle.closure.specs.Matrix.{Matrix, none, shown, join, Everywhere, shown_some}
 use Rattle.closure.specs.Start.{first_entries, started}
 use Rattle.closure.specs.Stops.{after, Floors, AboveFloors, Working, working}

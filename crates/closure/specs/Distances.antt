@@ -2,13 +2,15 @@
 use Rattle.std.specs.Prelude.{ℕ, suc, ◌+◌, ◌≤◌, ◌<◌, ◌≡◌, true, false, List}
 use Rattle.std.proofs.Common.{ap, arith}
 use Rattle.std.proofs.Math.Dec.{not_T}
-use Rattle.temporal.specs.Lists.{All-below, below-All, T-true, T-false}
+use Rattle.temporal.proofs.Lists.{All-below, below-All, T-true, T-false}
 use Rattle.temporal.specs.Bound.{above, below}
 use Rattle.temporal.specs.Ticket.{Rule, Ticket, events, time, Schedule}
-use Rattle.temporal.specs.Distance.{consistent, consistent_has, distance}
+use Rattle.temporal.specs.Distance.{consistent, distance}
+use Rattle.temporal.proofs.Distance.{consistent_has}
 use Rattle.temporal.specs.Run.{ValidRule, Valid}
-use Rattle.temporal.specs.DistanceLaws.{inside, IsTable, table_consistent, table_distance}
-use Rattle.paths.specs.Walks.{valid_points}
+use Rattle.temporal.proofs.DistanceLaws.{inside, table_consistent, table_distance}
+use Rattle.temporal.specs.DistanceLaws.{IsTable}
+use Rattle.paths.proofs.Walks.{valid_points}
 use Rattle.closure.specs.Cases.{by_eq}
 use Rattle.closure.specs.Signed.{bias, lower, raise_parts}
 use Rattle.closure.specs.Matrix.{Matrix, floor, Everywhere, floor_same, floor_other}

@@ -5,9 +5,10 @@ use Rattle.std.proofs.Common.{sym, ap, ◌∙◌, subst, arith}
 use Rattle.temporal.specs.Bound.{above, below}
 use Rattle.temporal.specs.Ticket.{Ticket, events}
 use Rattle.temporal.specs.Distance.{consistent}
-use Rattle.temporal.specs.DistanceLaws.{parts}
+use Rattle.temporal.proofs.DistanceLaws.{parts}
 use Rattle.temporal.specs.Run.{Valid}
-use Rattle.paths.specs.Shortest.{Taken, Shortest, Unreached, shortest_unique}
+use Rattle.paths.specs.Shortest.{Taken, Shortest, Unreached}
+use Rattle.paths.proofs.Shortest.{shortest_unique}
 use Rattle.closure.specs.Cases.{by_eq}
 use Rattle.closure.specs.Signed.{bias, lower}
 use Rattle.closure.specs.Matrix.{Matrix, none, Everywhere}

@@ -8,16 +8,19 @@ use mathlib.Core.List.{List, [], ◌∷◌, ◌++◌}
 use Rattle.std.proofs.Math.Logic.{⊎_elim}
 use Rattle.std.proofs.Math.Nat.{le-suc_iff}
 use native.Mathlib.Omega.{arith}
-use Rattle.temporal.specs.Lists.{All-below, below-All}
+use Rattle.temporal.proofs.Lists.{All-below, below-All}
 use Rattle.temporal.specs.Bound.{above, below}
 use Rattle.temporal.specs.Ticket.{Rule, Ticket, events, Schedule}
-use Rattle.temporal.specs.Distance.{consistent, consistent_has, distance}
-use Rattle.temporal.specs.DistanceLaws.{inside}
+use Rattle.temporal.specs.Distance.{consistent, distance}
+use Rattle.temporal.proofs.Distance.{consistent_has}
+use Rattle.temporal.proofs.DistanceLaws.{inside}
 use Rattle.temporal.specs.Run.{ValidRule, Valid}
 use Rattle.paths.specs.Rules as all
 use Rattle.paths.specs.Rules.{to_of, bound_of, Number}
-use Rattle.paths.specs.Walks.{ups, downs, ups_join, downs_join, sum_is, sum_least, rule_all, rule_points, valid_points, ups_most, rule_written, rule_back, rule_out}
-use Rattle.paths.specs.Shortest.{Taken, Any, Path, Shortest, taken_more, path_more, path_join, shortest_all, short_path}
+use Rattle.paths.specs.Walks.{ups, downs}
+use Rattle.paths.proofs.Walks.{ups_join, downs_join, sum_is, sum_least, rule_all, rule_points, valid_points, ups_most, rule_written, rule_back, rule_out}
+use Rattle.paths.specs.Shortest.{Taken, Any, Path, Shortest}
+use Rattle.paths.proofs.Shortest.{taken_more, path_more, path_join, shortest_all, short_path}
 use Rattle.closure.specs.Cases.{by_lt}
 use Rattle.closure.specs.Signed.{bias, lower, raise_parts, raise_high}
 use Rattle.closure.specs.Matrix.{Matrix, none, join, relax, Everywhere}

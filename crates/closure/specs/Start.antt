@@ -3,10 +3,11 @@ use Prim.Native.Nat.{ℕ, zero, suc, ◌+◌, ◌≤◌, ◌<◌, min}
 use Rattle.std.specs.Prelude.{◌≡◌, refl, cond, List, eqb, pos, length, get_or}
 use Rattle.std.proofs.Common.{sym, ap, ◌∙◌, ⊎_elim, arith, eq-eqb, ne_eqb}
 use Rattle.std.proofs.Math.Nat.{le-suc_iff}
-use Rattle.temporal.specs.Lists.{All-below}
-use Rattle.temporal.specs.Bound.{AtMost, signed}
+use Rattle.temporal.proofs.Lists.{All-below}
+use Rattle.temporal.specs.Bound.{AtMost}
+use Rattle.temporal.proofs.Bound.{signed}
 use Rattle.temporal.specs.Ticket.{Rule, Ticket, events, time, Schedule}
-use Rattle.temporal.specs.DistanceLaws.{inside}
+use Rattle.temporal.proofs.DistanceLaws.{inside}
 use Rattle.temporal.specs.Run.{ValidRule, Valid}
 use Rattle.closure.specs.Cases.{by_eq}
 use Rattle.closure.specs.Signed.{bias, raise, raise_parts, raise_low, raise_high}

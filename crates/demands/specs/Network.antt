@@ -2,7 +2,7 @@
 -- meets them: within the boxes, in order, and obeying the rules.
 use Rattle.std.specs.Prelude.{◌≡◌, List, ℕ, suc, ◌+◌, ◌*◌, ◌-◌, ◌≤◌, ◌<◌, pos, length, get_or}
 use Rattle.std.proofs.Common.{◌∙◌, subst, ⊎_elim, arith, below_more}
-use Rattle.temporal.specs.Lists.{below_or_not}
+use Rattle.temporal.proofs.Lists.{below_or_not}
 use Rattle.temporal.specs.Bound.{biased}
 use Rattle.network.specs.Network as network
 use Rattle.network.specs.Network.{Feasible}

@@ -4,16 +4,19 @@ use Rattle.std.specs.Prelude.{◌≡◌, Bool, true, false, List, ◌∷◌, ℕ
 use Rattle.std.proofs.Common.{sym, ◌∙◌, arith, to_z, of_z}
 use Rattle.std.specs.Int.{w32}
 use Rattle.std.proofs.lemmas.Int.{to_z-of_z}
-use Rattle.temporal.specs.Lists.{All, All-at, All-below, below-All}
-use Rattle.temporal.specs.Bound.{AtMost, above, below, biased, signed, with_bias}
+use Rattle.temporal.specs.Lists.{All}
+use Rattle.temporal.proofs.Lists.{All-at, All-below, below-All}
+use Rattle.temporal.specs.Bound.{AtMost, above, below, biased}
+use Rattle.temporal.proofs.Bound.{signed, with_bias}
 use Rattle.temporal.specs.Ticket as temporal
 use Rattle.temporal.specs.Ticket.{Rule, Window, origin}
-use Rattle.temporal.specs.Ends.{Ends, Lies}
+use Rattle.temporal.specs.Ends.{Ends}
+use Rattle.temporal.specs.Ticket.{Lies}
 use Rattle.network.specs.Lists.{differ}
 use Rattle.network.specs.Stored.{at}
 use Rattle.ticket.specs.declared.Ticket.{Ticket}
 use Rattle.ticket.specs.Writing.{content, rule_in}
-use Rattle.ticket.specs.Content.{in_events, in_rules}
+use Rattle.ticket.proofs.Content.{in_events, in_rules}
 use Rattle.potentials.specs.Arrays.{no_rule, Held, Given, rule_in_lem}
 use Rattle.potentials.specs.Nodes.{close_node, close_most, potential_of, potential_open, potential_node}
 use Rattle.demands.specs.Cost.{bound_fits}

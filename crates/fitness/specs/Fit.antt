@@ -2,9 +2,9 @@
 use Rattle.std.specs.Prelude.{ℕ, zero, suc, ◌+◌, ◌≤◌, ◌≡◌, refl, Bool, true, false, List}
 use Rattle.std.proofs.Common.{sym, arith}
 use Rattle.std.proofs.Math.Dec.{not_T}
-use Rattle.temporal.specs.Lists.{T-true, T-false}
+use Rattle.temporal.proofs.Lists.{T-true, T-false}
 use Rattle.temporal.specs.Ticket.{fits}
-use Rattle.temporal.specs.Ends.{fits_ends, ends_fits}
+use Rattle.temporal.proofs.Ends.{fits_ends, ends_fits}
 use Rattle.network.specs.Stored.{at}
 use Rattle.ticket.specs.declared.Ticket.{Ticket}
 use Rattle.ticket.specs.Writing.{content}

@@ -6,7 +6,7 @@ use Rattle.network.specs.Stored.{at}
 use Rattle.network.specs.Sum.{sum, sum_cong, sum_first}
 use Rattle.ticket.specs.declared.Ticket.{Ticket}
 use Rattle.ticket.specs.Writing.{firsts, content}
-use Rattle.ticket.specs.WritingLaws.{length_firsts, get_d_firsts}
+use Rattle.ticket.proofs.WritingLaws.{length_firsts, get_d_firsts}
 use Rattle.potentials.specs.Arrays.{window_list, length_window_list, window_at_lem}
 
 -- ---- the total width

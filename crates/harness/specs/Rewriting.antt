@@ -5,12 +5,12 @@ use Rattle.std.proofs.lemmas.Bool.{lt-leb}
 use Rattle.temporal.specs.Ticket as temporal
 use Rattle.temporal.specs.Plan.{State}
 use Rattle.ticket.specs.Parser.{number, Out, got, refused, Parser, wholly}
-use Rattle.ticket.specs.Laws.{number_some}
+use Rattle.ticket.proofs.Laws.{number_some}
 use Rattle.ticket.specs.Format.{read_ticket, read_state}
 use Rattle.ticket.specs.Stored.{answer, planned, whole_ticket, whole_record}
 use Rattle.ticket.specs.Writing.{over, told, left, writing, writing_record}
 use Rattle.ticket.specs.RoundTrip.{Bytes}
-use Rattle.ticket.specs.Agree.{reread, reread_state}
+use Rattle.ticket.proofs.Agree.{reread, reread_state}
 use Rattle.ticket.specs.declared.Written.{Written}
 
 -- x where 32 bits hold it, else the largest number that they hold

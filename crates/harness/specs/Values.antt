@@ -1,9 +1,9 @@
 -- The structs of given values: as many of each slice as a struct has places, and zeros where a slice is shorter.
 use Rattle.std.specs.Prelude.{ℕ, ◌+◌, ◌≤◌, ◌<◌, min, ◌≡◌, List, ℤ, pos, length, get_or, set, take}
 use Rattle.std.proofs.Common.{sym, ap, ◌∙◌, ⊎_elim, add-one, arith, length-take, take_all, take-suc}
-use Rattle.temporal.specs.Lists.{below_or_not}
+use Rattle.temporal.proofs.Lists.{below_or_not}
 use Rattle.ticket.specs.Stored.{pad}
-use Rattle.ticket.specs.Laws.{pad_set}
+use Rattle.ticket.proofs.Laws.{pad_set}
 use Rattle.ticket.specs.declared.Ticket.{Ticket}
 use Rattle.ticket.specs.declared.Record.{Record}
 

@@ -7,16 +7,18 @@ use Rattle.temporal.specs.Lists.{All}
 use Rattle.temporal.specs.Ticket as temporal
 use Rattle.temporal.specs.Ticket.{Lies}
 use Rattle.temporal.specs.Plan.{accepted, refused, plan, plan_latest, plan_for}
-use Rattle.temporal.specs.Answers.{plan_latest_refused}
+use Rattle.temporal.proofs.Answers.{plan_latest_refused}
 use Rattle.temporal.specs.Run.{Valid}
 use Rattle.network.specs.Lists.{differ}
 use Rattle.ticket.specs.declared.Ticket.{Ticket}
 use Rattle.ticket.specs.Writing.{content}
-use Rattle.ticket.specs.Content.{in_events, in_rules}
+use Rattle.ticket.proofs.Content.{in_events, in_rules}
 use Rattle.potentials.specs.Arrays.{window_list, flag_list, Lie, lie_at, Within, within_same}
 use Rattle.windows.specs.Promises.{state_in, Workspace, Planned}
-use Rattle.mirror.specs.Mirror.{mirror_windows, lies_mirror}
-use Rattle.mirror.specs.Cut.{cut_mirror, length_cut_mirror, Possible, turned_back, plan_latest_cut_mirror, valid_proper, cut_mirror_valid, schedule_possible}
+use Rattle.mirror.specs.Mirror.{mirror_windows}
+use Rattle.mirror.proofs.Mirror.{lies_mirror}
+use Rattle.mirror.specs.Cut.{cut_mirror, Possible, turned_back}
+use Rattle.mirror.proofs.Cut.{length_cut_mirror, plan_latest_cut_mirror, valid_proper, cut_mirror_valid, schedule_possible}
 use Rattle.mirror.specs.Structs.{Below}
 
 -- the windows of the plan, of the latest one where `late` says so; or no schedule

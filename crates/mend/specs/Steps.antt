@@ -8,16 +8,18 @@ use Rattle.network.specs.Stored.{at}
 use Rattle.ticket.specs.Writer.{bytes, each, write_ticket}
 use Rattle.ticket.specs.Writing.{firsts, content}
 use Rattle.ticket.specs.Stored.{whole_ticket}
-use Rattle.ticket.specs.RoundTrip.{length_bytes, length_each, length_ticket}
-use Rattle.ticket.specs.Sizes.{ticket_bytes}
-use Rattle.ticket.specs.WritingLaws.{length_firsts}
-use Rattle.ticket.specs.Content.{Limits, in_events, in_rules, limits, read_refused, read_got, read_content}
+use Rattle.ticket.proofs.RoundTrip.{length_bytes, length_each, length_ticket}
+use Rattle.ticket.proofs.Sizes.{ticket_bytes}
+use Rattle.ticket.proofs.WritingLaws.{length_firsts}
+use Rattle.ticket.specs.Content.{Limits}
+use Rattle.ticket.proofs.Content.{in_events, in_rules, limits, read_refused, read_got, read_content}
 use Rattle.ticket.specs.declared.ReadTicket.{ReadTicket}
 use Rattle.writing.specs.Stores.{sets_over, sets_then, sets_each}
 use Rattle.mending.specs.Selection.{mended, dropped}
-use Rattle.mending.specs.Laws.{selected_count, mended_valid}
-use Rattle.mending.specs.Mending.{write_numbers, Outcome, refusing, accepting, after_reading, mending, mending_read}
-use Rattle.mending.specs.Mended.{length_numbers, numbers_fit}
+use Rattle.mending.proofs.Laws.{selected_count, mended_valid}
+use Rattle.mending.specs.Mending.{write_numbers, Outcome, refusing, accepting, after_reading, mending}
+use Rattle.mending.proofs.Mending.{mending_read}
+use Rattle.mending.proofs.Mended.{length_numbers, numbers_fit}
 use Rattle.select.specs.declared.Mended.{Mended}
 use Rattle.mend.specs.Returned.{returned}
 use Rattle.mend.specs.declared.Answer.{Answer}

@@ -1,21 +1,8 @@
 -- The definitions at work, on bytes, as one table: a ticket, the mended one and the list, whatever outputs of 1,584 and 514 bytes or more are lent. P1 of 01
 -- has a schedule and comes out as it is; P6 with the bound 0 loses its second rule, and keeps one after it whose ring sums to 0; P7 with the bound -11 loses its
 -- only one.
-use Rattle.std.specs.Prelude.{ℕ, ◌≤◌, ◌≡◌, refl, true, false, List, [], ◌∷◌, ◌++◌, T, pos, length}
-use Rattle.std.proofs.Common.{ap, ◌∙◌}
-use Rattle.std.proofs.Math.Dec.{not_T}
-use Rattle.temporal.specs.Lists.{All, T-true, T-false}
-use Rattle.temporal.specs.Bound.{at_most, above, below}
-use Rattle.temporal.specs.Ticket.{Rule, Ticket, Schedule, is_schedule}
-use Rattle.temporal.specs.Ends.{test_schedule}
-use Rattle.temporal.specs.Distance.{consistent_has}
-use Rattle.temporal.specs.Examples.{rule, minus, ticket1, ticket6, ticket7, consistent1, impossible6, impossible7}
-use Rattle.ticket.specs.Parser.{got, little, many, wholly}
-use Rattle.ticket.specs.Format.{read_ticket, read_owner, read_rule}
-use Rattle.ticket.specs.Writer.{bytes, each, write_rule, write_ticket}
-use Rattle.mending.specs.Selection.{with_rules, consistent_with, Selection, select, selected}
-use Rattle.mending.specs.Laws.{schedule_mended}
-use Rattle.mending.specs.Mending.{write_numbers, writing, after_reading, mending, mending_read}
+use Rattle.std.specs.Prelude.{ℕ, ◌≤◌, ◌≡◌, List, [], ◌∷◌, length}
+use Rattle.mending.specs.Mending.{writing, mending}
 
 -- ---- the table
 
@@ -24,7 +11,7 @@ pub record Example : Type 0 where
   pub mended : List ℕ
   pub list : List ℕ
 
-abbrev bytes1 : List ℕ
+abbrev pub bytes1 : List ℕ
 bytes1 =
     20 ∷ 0 ∷ 0 ∷ 0 ∷ 2 ∷ 0 ∷ 0 ∷ 2 ∷ 6 ∷ 0
     ∷ 0 ∷ 1 ∷ 15 ∷ 0 ∷ 0 ∷ 0
@@ -36,7 +23,7 @@ bytes1 =
     ∷ []
 
 -- "1 to 2: -1", "2 to 1: 0" and "2 to 1: 1", the horizon 10
-abbrev bytes6 : List ℕ
+abbrev pub bytes6 : List ℕ
 bytes6 =
     10 ∷ 0 ∷ 0 ∷ 0 ∷ 2 ∷ 0 ∷ 3 ∷ 3 ∷ 3 ∷ 0
     ∷ 1 ∷ 2 ∷ 255 ∷ 255 ∷ 255 ∷ 255
@@ -51,7 +38,7 @@ mended6 =
     ∷ 2 ∷ 1 ∷ 1 ∷ 0 ∷ 0 ∷ 0
     ∷ []
 
-abbrev bytes7 : List ℕ
+abbrev pub bytes7 : List ℕ
 bytes7 =
     10 ∷ 0 ∷ 0 ∷ 0 ∷ 1 ∷ 0 ∷ 3 ∷ 1 ∷ 0
     ∷ 1 ∷ 0 ∷ 245 ∷ 255 ∷ 255 ∷ 255
@@ -70,70 +57,3 @@ examples =
 -- the mended ticket and the list stand at the start of the outputs, and their lengths are returned
 abbrev pub Holds : Example → Type 0
 Holds x = (out list : List ℕ) → 1584 ≤ length out → 514 ≤ length list → mending x.ticket out list ≡ writing x.mended x.list out list
-
--- ---- what is kept and dropped
-
-none_keeps : (k : Ticket) (kept : List Rule) (r : Rule) → ((ts : List ℕ) → ¬ Schedule (with_rules k (kept ++ r ∷ [])) ts) → consistent_with k kept r ≡ false
-none_keeps k kept r none =
-    T-false (consistent_with k kept r) (not_T (consistent_with k kept r) (λ t.
-    let s = (consistent_has (with_rules k (kept ++ r ∷ []))).0 t in
-    none s.0 s.1))
-
-keeps : (k : Ticket) (kept : List Rule) (r : Rule) (ts : List ℕ) → T (is_schedule (with_rules k (kept ++ r ∷ [])) ts) → consistent_with k kept r ≡ true
-keeps k kept r ts t =
-    T-true (consistent_with k kept r) ((consistent_has (with_rules k (kept ++ r ∷ []))).1 (ts, test_schedule (with_rules k (kept ++ r ∷ [])) ts t))
-
-selected1 : selected ticket1 ≡ record { kept = ticket1.rules; dropped = [] }
-selected1 =
-    let e = schedule_mended ticket1 ((consistent_has ticket1).0 consistent1) in
-    λ i. record { kept = (e.0 i).rules; dropped = e.1 i }
-
-abbrev three6 : Ticket
-three6 = with_rules (ticket6 (pos 0)) (rule 1 2 (minus 1) ∷ rule 2 1 (pos 0) ∷ rule 2 1 (pos 1) ∷ [])
-
--- "1 to 2: -1" can be kept alone
-first6 : consistent_with three6 [] (rule 1 2 (minus 1)) ≡ true
-unfolding is_schedule at_most above below
-first6 = keeps three6 [] (rule 1 2 (minus 1)) (1 ∷ 0 ∷ []) tt
-
--- "2 to 1: 0" cannot be kept with it
-second6 : consistent_with three6 (rule 1 2 (minus 1) ∷ []) (rule 2 1 (pos 0)) ≡ false
-second6 = none_keeps three6 (rule 1 2 (minus 1) ∷ []) (rule 2 1 (pos 0)) impossible6
-
--- "2 to 1: 1" can
-third6 : consistent_with three6 (rule 1 2 (minus 1) ∷ []) (rule 2 1 (pos 1)) ≡ true
-unfolding is_schedule at_most above below
-third6 = keeps three6 (rule 1 2 (minus 1) ∷ []) (rule 2 1 (pos 1)) (1 ∷ 0 ∷ []) tt
-
-selected6 : selected three6 ≡ record { kept = rule 1 2 (minus 1) ∷ rule 2 1 (pos 1) ∷ []; dropped = 2 ∷ [] }
-unfolding selected select
-selected6 = rw (first6, second6, third6) refl
-
--- "1 to 0: -11" cannot be kept: the horizon is 10
-only7 : consistent_with (ticket7 (minus 11)) [] (rule 1 0 (minus 11)) ≡ false
-only7 = none_keeps (ticket7 (minus 11)) [] (rule 1 0 (minus 11)) impossible7
-
-selected7 : selected (ticket7 (minus 11)) ≡ record { kept = []; dropped = 1 ∷ [] }
-unfolding selected select
-selected7 = rw only7 refl
-
--- ---- every row of the table is what the definitions answer
-
-row : (ticket : List ℕ) (k : Ticket) (s : Selection) {written numbers : List ℕ} → wholly read_ticket ticket ≡ got k [] → selected k ≡ s
-    → write_ticket (with_rules k s.kept) ≡ written → write_numbers s.dropped ≡ numbers
-    → (out list : List ℕ) → 1584 ≤ length out → 514 ≤ length list → mending ticket out list ≡ writing written numbers out list
-row ticket k s read e w n out list l m =
-    mending_read ticket out list l m
-    ∙ ap (after_reading out list) read
-    ∙ ap (λ (x : Selection). writing (write_ticket (with_rules k x.kept)) (write_numbers x.dropped) out list) e
-    ∙ (λ i. writing (w i) (n i) out list)
-
-pub examples_hold : All Holds examples
-unfolding read_ticket read_owner read_rule little many write_ticket write_rule bytes each write_numbers
-examples_hold = (
-  row bytes1 ticket1 (record { kept = ticket1.rules; dropped = [] }) refl selected1 refl refl,
-  (
-    row bytes6 three6 (record { kept = rule 1 2 (minus 1) ∷ rule 2 1 (pos 1) ∷ []; dropped = 2 ∷ [] }) refl selected6 refl refl,
-    (row bytes7 (ticket7 (minus 11)) (record { kept = []; dropped = 1 ∷ [] }) refl selected7 refl refl, tt),
-  ),
-)

@@ -17,7 +17,6 @@
 -- That the code is this selection and this function is said by its contracts, in crates `select` and `mend`.
 pub mod Selection
 pub mod Mending
-pub mod Steps
 pub mod Split
 pub mod Laws
 pub mod Mended

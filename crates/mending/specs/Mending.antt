@@ -1,7 +1,6 @@
 -- Mending on bytes (02, change 6), as a function of all that the call is lent: what is returned, and what the two outputs hold afterwards.
 -- The bytes are `ticket`'s; what is kept and dropped is Selection's.
-use Rattle.std.specs.Prelude.{ℕ, ◌≤◌, ◌<◌, ◌≡◌, Bool, cond, ◌&&◌, List, ◌++◌, leb, length}
-use borrow.Author.Tests.{le-leb, lt-leb}
+use Rattle.std.specs.Prelude.{ℕ, Bool, cond, ◌&&◌, List, ◌++◌, leb, length}
 use Rattle.temporal.specs.Ticket.{Ticket}
 use Rattle.ticket.specs.Parser.{number, Out, wholly}
 use Rattle.ticket.specs.Format.{read_ticket}
@@ -45,18 +44,3 @@ room out list = leb 1584 (length out) && leb 514 (length list)
 -- the call: 10 is tested first, then the ticket is read, to its end
 unfoldable pub mending : (ticket out list : List ℕ) → Outcome
 mending ticket out list = cond (room out list) (after_reading out list (wholly read_ticket ticket)) (refusing 10 out list)
-
--- ---- the same by cases
-
-module _ (ticket out list : List ℕ) where
-  pub mending_short_out : length out < 1584 → mending ticket out list ≡ refusing 10 out list
-  unfolding mending room
-  mending_short_out l = rw (lt-leb 1584 (length out) l)
-
-  pub mending_short_list : 1584 ≤ length out → length list < 514 → mending ticket out list ≡ refusing 10 out list
-  unfolding mending room
-  mending_short_list l m = rw (le-leb 1584 (length out) l, lt-leb 514 (length list) m)
-
-  pub mending_read : 1584 ≤ length out → 514 ≤ length list → mending ticket out list ≡ after_reading out list (wholly read_ticket ticket)
-  unfolding mending room
-  mending_read l m = rw (le-leb 1584 (length out) l, le-leb 514 (length list) m)

@@ -10,6 +10,5 @@
 --                 (`cut_mirror_valid`), as where there is a schedule (`schedule_possible`), and its plan is the mirror of the latest plan (`plan_latest_cut_mirror`)
 --   Structs       the same in arrays, for the code
 pub mod Mirror
-pub mod LatestMirror
 pub mod Cut
 pub mod Structs

@@ -1,100 +1,9 @@
 -- The mirror in arrays: what the loops of the code leave, and that the struct they make says the cut mirror. Rests on Cut and on `ticket`'s
 -- `content`.
-use Rattle.std.specs.Prelude.{◌≡◌, refl, List, [], ◌∷◌, ◌++◌, map, Bool, true, false, cond, ◌≢◌, ◌↔◌, ℕ, zero, suc, ◌+◌, ◌-◌, ◌≤◌, ◌<◌, T, leb, ltb, ℤ, pos, negsuc, ◌+ℤ◌, ◌-ℤ◌, ◌≤ℤ◌, length, get_or, set, replicate}
-use Rattle.std.proofs.Math.Path.{sym}
-use Rattle.std.proofs.Common.{ap, subst, ◌∙◌, ⊎_elim, arith, le-leb, leb→le, SFits, length-set, get_or-set_same, get_or-set_other}
-use Rattle.std.specs.Int.Signed.{mag, le_z}
-use Rattle.std.specs.Int.{w32}
-use Rattle.temporal.specs.Lists.{All, below_or_not, All-below}
-use Rattle.temporal.specs.Bound.{above, below}
-use Rattle.temporal.specs.Ticket.{Rule, events}
-use Rattle.temporal.specs.Run.{ValidRule, Valid}
-use Rattle.network.specs.Lists.{differ}
+use Rattle.std.specs.Prelude.{◌≡◌, List, [], ℕ, ◌-◌, ◌≤◌, ◌<◌, ℤ, pos, length, get_or, replicate}
 use Rattle.network.specs.Stored.{at}
 use Rattle.ticket.specs.declared.Ticket.{Ticket}
-use Rattle.ticket.specs.Writing.{firsts, rule_in, content}
-use Rattle.ticket.specs.Agree.{firsts_cong, all_firsts}
-use Rattle.ticket.specs.Content.{in_rules}
-use Rattle.potentials.specs.Arrays.{window_list, Within, no_rule, rule_in_lem}
-use Rattle.mirror.specs.Mirror.{mirror_bound, mirror_rule, mirror_window, mirror_windows, signs_plus, signs_minus}
-use Rattle.mirror.specs.Cut.{cut_bound, cut_mirror_bound, cut_rule, cut_mirror, Possible, signs_one, signs_low, signs_high}
-
--- ---- the bound of a rule's mirror, as the code works it
-
-small_fits : (z : ℤ) → above z ≤ 2000000 → below z ≤ 2000000 → SFits w32 z
-unfolding above below
-small_fits (pos n) a b = record { sfits = omega arith }
-small_fits (negsuc n) a b = record { sfits = omega arith }
-
-module _ (h : ℕ) (l : h ≤ 1000000) (c : ℤ) (a : negsuc 999999 ≤ℤ c) (b : c ≤ℤ pos 1000000) where
-  pub minus_fits : SFits w32 (c -ℤ pos h)
-  minus_fits =
-      let s = signs_minus c h in
-      let o = signs_one (c -ℤ pos h) in
-      small_fits (c -ℤ pos h) (omega (arith, s, o, (signs_high c).0 b, (signs_low c).0 a)) (omega (arith, s, o, (signs_high c).0 b, (signs_low c).0 a))
-
-  pub plus_fits : SFits w32 (c +ℤ pos h)
-  plus_fits =
-      let s = signs_plus c h in
-      let o = signs_one (c +ℤ pos h) in
-      small_fits (c +ℤ pos h) (omega (arith, s, o, (signs_high c).0 b, (signs_low c).0 a)) (omega (arith, s, o, (signs_high c).0 b, (signs_low c).0 a))
-
-pub bound_from_start : (h i j : ℕ) (c : ℤ) → i ≡ 0 → i ≢ j → cut_mirror_bound h i j c ≡ c -ℤ pos h
-unfolding cut_bound mirror_bound
-bound_from_start h zero zero c e d = absurd (d refl)
-bound_from_start h zero (suc j) c e d = refl
-bound_from_start h (suc i) j c e d = absurd (omega arith)
-
-pub bound_between : (h i j : ℕ) (c : ℤ) → i ≢ 0 → j ≢ 0 → cut_mirror_bound h i j c ≡ c
-unfolding cut_bound mirror_bound
-bound_between h zero j c n m = absurd (n refl)
-bound_between h (suc i) zero c n m = absurd (m refl)
-bound_between h (suc i) (suc j) c n m = refl
-
-pub bound_cut : (h i j : ℕ) (c : ℤ) → i ≢ 0 → j ≡ 0 → le_z (pos 0) c ≡ true → cut_mirror_bound h i j c ≡ pos h
-unfolding cut_bound mirror_bound
-bound_cut h zero j c n e t = absurd (n refl)
-bound_cut h (suc i) (suc j) c n e t = absurd (omega arith)
-bound_cut h (suc i) zero (negsuc m) n e t = differ (sym t)
-bound_cut h (suc i) zero (pos m) n e t = by (leb (m + h) h) (λ u. leb→le (m + h) h u)
-  where
-    by : (b : Bool) → (T b → m + h ≤ h) → cond b (pos (m + h)) (pos h) ≡ pos h
-    by true f = ap pos (omega (arith, f tt))
-    by false f = refl
-
-pub bound_to_start : (h i j : ℕ) (c : ℤ) → i ≢ 0 → j ≡ 0 → le_z (pos 0) c ≡ false → cut_mirror_bound h i j c ≡ c +ℤ pos h
-unfolding cut_bound mirror_bound
-bound_to_start h zero j c n e t = absurd (n refl)
-bound_to_start h (suc i) (suc j) c n e t = absurd (omega arith)
-bound_to_start h (suc i) zero (pos m) n e t = differ (sym (le-leb 0 m (omega arith)) ∙ t)
-bound_to_start h (suc i) zero (negsuc m) n e t = by (ltb h (suc m))
-  where
-    by : (b : Bool)
-        → cond (le_z (cond b (negsuc (suc m - suc h)) (pos (h - suc m))) (pos h)) (cond b (negsuc (suc m - suc h)) (pos (h - suc m))) (pos h)
-        ≡ cond b (negsuc (suc m - suc h)) (pos (h - suc m))
-    by true = refl
-    by false = rw (le-leb (h - suc m) h (omega arith)) refl
-
--- ---- whether a rule with the start can be kept
-
-pub possible_yes : (h i j : ℕ) (c : ℤ) → le_z (pos 0) c ≡ true → Possible h (record { from = i; to = j; bound = c })
-unfolding below
-possible_yes h i j (pos n) t = (λ _. refl, λ _. omega arith)
-possible_yes h i j (negsuc n) t = differ (sym t)
-
-pub possible_not : (h i j : ℕ) (c : ℤ) → le_z (pos 0) c ≡ false → i ≡ 0 → Possible h (record { from = i; to = j; bound = c }) → ⊥
-unfolding below
-possible_not h i j (pos n) t e p = differ (sym (le-leb 0 n (omega arith)) ∙ t)
-possible_not h i j (negsuc n) t e p = omega (arith, p.0 e)
-
-pub possible_between : (h i j : ℕ) (c : ℤ) → i ≢ 0 → j ≢ 0 → Possible h (record { from = i; to = j; bound = c })
-possible_between h i j c n m = (λ e. absurd (n e), λ e. absurd (m e))
-
--- a negative bound is minus its magnitude, which is counted from -1
-pub possible_to_start : (h i j : ℕ) (c : ℤ) → le_z (pos 0) c ≡ false → i ≢ 0 → j ≡ 0 → (mag c < h) ↔ Possible h (record { from = i; to = j; bound = c })
-unfolding below
-possible_to_start h i j (pos n) t d e = differ (sym (le-leb 0 n (omega arith)) ∙ t)
-possible_to_start h i j (negsuc n) t d e = (λ l. (λ z. absurd (d z), λ _. omega arith), λ p. omega (arith, p.1 e))
+use Rattle.mirror.specs.Cut.{cut_mirror_bound}
 
 -- ---- an array whose first places are written anew
 
@@ -103,22 +12,6 @@ pub record Replaced {A : Type 0} (d : A) (n : ℕ) (f : ℕ → A) (xs xs' : Lis
   pub long : length xs' ≡ length xs
   pub first : (i : ℕ) → i < n → get_or xs' i d ≡ f i
   pub rest : (i : ℕ) → n ≤ i → get_or xs' i d ≡ get_or xs i d
-
-module _ {A : Type 0} {d : A} {f : ℕ → A} {xs : List A} where
-  pub replaced_none : Replaced d 0 f xs xs
-  replaced_none = record { long = refl; first = λ i l. absurd (omega arith); rest = λ i l. refl }
-
-  pub replaced_more : {n : ℕ} {xs' : List A} {x : A} → n < length xs → x ≡ f n → Replaced d n f xs xs' → Replaced d (n + 1) f xs (set xs' n x)
-  replaced_more {n} {xs'} {x} l e R = record {
-    long = simp length-set R.long;
-    first = λ i li. ⊎_elim
-        (λ (lt : i < n). get_or-set_other xs' n i x d (λ q. omega arith) ∙ R.first i lt)
-        (λ (ge : n ≤ i).
-        let same : n ≡ i = omega arith in
-        ap (λ j. get_or (set xs' n x) j d) (sym same) ∙ get_or-set_same xs' n x d (omega (arith, R.long)) ∙ e ∙ ap f same)
-        (below_or_not i n);
-    rest = λ i li. get_or-set_other xs' n i x d (λ q. omega arith) ∙ R.rest i (omega arith);
-  }
 
 -- ---- windows
 
@@ -131,63 +24,8 @@ pub record Exchanged (h n : ℕ) (opens closes opens' closes' : List ℕ) : Type
   pub opened : Replaced 0 n (λ i. h - at closes i) opens opens'
   pub closed : Replaced 0 n (λ i. h - at opens i) closes closes'
 
-firsts_map : {A B : Type 0} (f : A → B) (n : ℕ) (g : ℕ → A) → map f (firsts n g) ≡ firsts n (λ i. f (g i))
-unfolding firsts
-firsts_map f zero g = refl
-firsts_map f (suc n) g = map_snoc (firsts n g) (g n) ∙ ap (λ xs. xs ++ f (g n) ∷ []) (firsts_map f n g)
-  where
-    map_snoc : (xs : List _) (x : _) → map f (xs ++ x ∷ []) ≡ map f xs ++ f x ∷ []
-    map_snoc [] x = refl
-    map_snoc (y ∷ ys) x = ap (λ zs. f y ∷ zs) (map_snoc ys x)
-
-module _ {h n : ℕ} {opens closes opens' closes' : List ℕ} (E : Exchanged h n opens closes opens' closes') where
-  pub exchanged_windows : window_list n opens' closes' ≡ mirror_windows h (window_list n opens closes)
-  unfolding window_list
-  exchanged_windows =
-      firsts_cong n (λ i. record { opens = at opens' i; closes = at closes' i }) (λ i. mirror_window h (record { opens = at opens i; closes = at closes i }))
-      (λ i l. λ j. record { opens = E.opened.first i l j; closes = E.closed.first i l j })
-      ∙ sym (firsts_map (mirror_window h) n (λ i. record { opens = at opens i; closes = at closes i }))
-
-  pub exchanged_within : Within n opens opens' × Within n closes closes'
-  exchanged_within = (
-    record { long = E.opened.long; past = E.opened.rest },
-    record { long = E.closed.long; past = E.closed.rest },
-  )
-
 -- ---- the struct
 
 -- the bounds of the first n mirrored rules
 abbrev pub Bounds : Ticket → List ℤ → ℕ → Type 0
 Bounds t bounds n = Replaced (pos 0) n (λ j. cut_mirror_bound t.horizon (at t.from j) (at t.to j) (get_or t.bound j (pos 0))) (replicate 256 (pos 0)) bounds
-
-pub mirrored_content : (t : Ticket) (bounds : List ℤ) → Bounds t bounds t.rules
-    → content (record { horizon = t.horizon; events = t.events; owners = t.owners; rules = t.rules; from = t.to; to = t.from; bound = bounds }) ≡ cut_mirror (content t)
-mirrored_content t bounds B =
-    let h : ℕ = t.horizon in
-    let e : firsts t.rules (λ j. record { from = at t.to j; to = at t.from j; bound = get_or bounds j (pos 0) })
-    ≡ map (cut_rule h) (map (mirror_rule h) (firsts t.rules (rule_in t))) =
-    firsts_cong t.rules _ (λ j. cut_rule h (mirror_rule h (rule_in t j))) (λ j l. λ i. record { from = at t.to j; to = at t.from j; bound = B.first j l i })
-    ∙ sym (ap (map (cut_rule h)) (firsts_map (mirror_rule h) t.rules (rule_in t)) ∙ firsts_map (cut_rule h) t.rules (λ j. mirror_rule h (rule_in t j))) in
-    λ i. record { horizon = h; owners = (content t).owners; rules = e i }
-
--- what holds of every rule, by its place
-pub rules_each : (t : Ticket) (P : Rule → Type 0) → All P (content t).rules → (j : ℕ) → j < t.rules → P (rule_in t j)
-rules_each t P h j l = subst P (rule_in_lem t j l) (All-below P no_rule (content t).rules h j (omega (arith, in_rules t)))
-
-pub rules_all : (t : Ticket) (P : Rule → Type 0) → ((j : ℕ) → j < t.rules → P (rule_in t j)) → All P (content t).rules
-rules_all t P h = all_firsts P (rule_in t) t.rules h
-
-pub valid_fits : {n : ℕ} {r : Rule} → ValidRule n r → SFits w32 r.bound
-valid_fits {r = r} v = small_fits r.bound (omega (arith, (signs_high r.bound).0 v.at_most)) (omega (arith, (signs_low r.bound).0 v.at_least))
-
--- rule j of a valid ticket, whose points are bytes
-pub rule_valid : (t : Ticket) → Valid (content t) → (j : ℕ) → j < t.rules → ValidRule 255 (rule_in t j)
-rule_valid t v j l =
-    let r = rules_each t (ValidRule (events (content t))) v.rules_valid j l in
-    record {
-      from_point = omega (arith, r.from_point, v.events_limit);
-      to_point = omega (arith, r.to_point, v.events_limit);
-      differ = r.differ;
-      at_least = r.at_least;
-      at_most = r.at_most;
-    }

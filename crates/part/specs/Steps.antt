@@ -11,17 +11,18 @@ use Rattle.temporal.specs.Run.{Valid}
 use Rattle.network.specs.Stored.{at}
 use Rattle.ticket.specs.Writer.{bytes, each}
 use Rattle.ticket.specs.Writing.{firsts, content}
-use Rattle.ticket.specs.Agree.{firsts_cong}
+use Rattle.ticket.proofs.Agree.{firsts_cong}
 use Rattle.ticket.specs.Stored.{whole_ticket}
-use Rattle.ticket.specs.RoundTrip.{length_bytes}
-use Rattle.ticket.specs.Content.{read_refused, read_got, read_content}
+use Rattle.ticket.proofs.RoundTrip.{length_bytes}
+use Rattle.ticket.proofs.Content.{read_refused, read_got, read_content}
 use Rattle.ticket.specs.declared.ReadTicket.{ReadTicket}
 use Rattle.writing.specs.Stores.{sets_over, sets_then}
 use Rattle.potentials.specs.Arrays.{window_at_lem}
 use Rattle.parts.specs.Part.{members, part_total}
-use Rattle.parts.specs.Members.{point_most}
-use Rattle.parts.specs.Parting.{Numbered, numbered_at, numbered, write_numbered, write_part, Outcome, refusing, accepting, parted, after_reading, parting, parting_read, parted_some}
-use Rattle.parts.specs.Parted.{length_part, part_size}
+use Rattle.parts.proofs.Members.{point_most}
+use Rattle.parts.specs.Parting.{Numbered, numbered_at, numbered, write_numbered, write_part, Outcome, refusing, accepting, parted, after_reading, parting}
+use Rattle.parts.proofs.Parting.{parting_read, parted_some}
+use Rattle.parts.proofs.Parted.{length_part, part_size}
 use Rattle.part_windows.specs.declared.Part.{Part}
 use Rattle.part_windows.specs.Planned.{IsPart}
 use Rattle.part.specs.Returned.{returned}

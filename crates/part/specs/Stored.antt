@@ -5,11 +5,11 @@ use Rattle.std.proofs.lemmas.List.Edits.{sets}
 use Rattle.network.specs.Stored.{at}
 use Rattle.ticket.specs.Writer.{each, window_bytes}
 use Rattle.ticket.specs.Writing.{firsts}
-use Rattle.ticket.specs.WritingLaws.{length_firsts}
-use Rattle.ticket.specs.RoundTrip.{length_each}
+use Rattle.ticket.proofs.WritingLaws.{length_firsts}
+use Rattle.ticket.proofs.RoundTrip.{length_each}
 use Rattle.writing.specs.Stores.{sets_each}
 use Rattle.parts.specs.Parting.{Numbered, write_numbered}
-use Rattle.parts.specs.Parted.{length_numbered}
+use Rattle.parts.proofs.Parted.{length_numbered}
 
 -- the event at place i, counted from 0, with its window
 abbrev pub numbered_in : (points opens closes : List ℕ) → ℕ → Numbered

@@ -3,14 +3,15 @@
 use Rattle.std.specs.Prelude.{◌≡◌, List, map, ℕ, ◌+◌, ◌*◌, ◌≤◌, pos, length, get_or}
 use Rattle.std.proofs.Common.{ap, ◌∙◌}
 use Rattle.std.proofs.Math.ListN.{get_or-map}
-use Rattle.temporal.specs.Lists.{All, All-below}
+use Rattle.temporal.specs.Lists.{All}
+use Rattle.temporal.proofs.Lists.{All-below}
 use Rattle.temporal.specs.Bound.{above, below}
 use Rattle.temporal.specs.Ticket.{Rule}
 use Rattle.network.specs.Stored.{at}
 use Rattle.network.specs.Edges.{Extends, Boxes}
 use Rattle.ticket.specs.declared.Ticket.{Ticket}
 use Rattle.ticket.specs.Writing.{firsts, content}
-use Rattle.ticket.specs.Agree.{firsts_cong, firsts_all}
+use Rattle.ticket.proofs.Agree.{firsts_cong, firsts_all}
 use Rattle.potentials.specs.Arrays.{no_rule, Held}
 use Rattle.demands.specs.Network.{Order, Built, built_by}
 use Rattle.part_network.specs.Lay.{Lays}

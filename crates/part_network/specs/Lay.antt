@@ -2,9 +2,9 @@
 use Rattle.std.specs.Prelude.{◌≡◌, List, [], ◌∷◌, ◌++◌, ℕ, zero, suc, ◌+◌, ◌*◌, ◌-◌, ◌≤◌, ◌<◌, ℤ, length, get_or}
 use Rattle.std.proofs.Common.{subst, sym, ap, ◌∙◌, ⊎_elim, arith, length-append, get_or-append-add}
 use Rattle.std.proofs.Math.ListN.{get_or-append}
-use Rattle.temporal.specs.Lists.{below_or_not}
+use Rattle.temporal.proofs.Lists.{below_or_not}
 use Rattle.temporal.specs.Bound.{biased}
-use Rattle.temporal.specs.DistanceLaws.{parts}
+use Rattle.temporal.proofs.DistanceLaws.{parts}
 use Rattle.temporal.specs.Ticket.{Rule}
 use Rattle.network.specs.Stored.{at}
 use Rattle.network.specs.Edges.{EdgeIs, Extends, extends_none, extends_trans, extends_edge, Put}
@@ -14,7 +14,7 @@ use Rattle.potentials.specs.Pairs.{PutPair}
 use Rattle.closure.specs.Signed.{bias, lower}
 use Rattle.closure.specs.Matrix.{entry}
 use Rattle.parts.specs.Part.{joined}
-use Rattle.parts.specs.AllRules.{joined_more}
+use Rattle.parts.proofs.AllRules.{joined_more}
 
 -- the bound from the part's point i to its point j: the entry between the ticket's points at which these stand
 abbrev pub bound_in : (points w : List ℕ) → ℕ → ℕ → ℤ

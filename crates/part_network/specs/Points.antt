@@ -3,10 +3,10 @@ use Rattle.std.specs.Prelude.{◌≡◌, refl, Bool, true, false, cond, List, []
 use Rattle.std.proofs.Common.{sym, ap, subst, ◌∙◌, ⊎_elim, arith, length-set, length-append, get_or-set_same, get_or-set_other}
 use Rattle.std.proofs.Math.ListN.{get_or-append}
 use Rattle.std.proofs.Math.Seq.{get_or-append_seam}
-use Rattle.temporal.specs.Lists.{below_or_not}
+use Rattle.temporal.proofs.Lists.{below_or_not}
 use Rattle.network.specs.Stored.{at}
 use Rattle.ticket.specs.Writing.{firsts}
-use Rattle.ticket.specs.WritingLaws.{firsts_more, length_firsts}
+use Rattle.ticket.proofs.WritingLaws.{firsts_more, length_firsts}
 use Rattle.parts.specs.Part.{owned_from}
 
 -- the array and the count after one event

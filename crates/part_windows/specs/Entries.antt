@@ -2,16 +2,18 @@
 use Rattle.std.specs.Prelude.{ℕ, ◌+◌, ◌-◌, ◌≤◌, ◌≡◌, Bool, List, T, ℤ, pos, negsuc, ◌≤ℤ◌}
 use Rattle.std.proofs.Common.{sym, ap, ◌∙◌, arith, lt-ltb, le-ltb, leb→le, le→leb}
 use Rattle.std.proofs.Math.Dec.{not_T}
-use Rattle.temporal.specs.Lists.{T-true, T-false}
-use Rattle.temporal.specs.Bound.{above, below, above_most}
+use Rattle.temporal.proofs.Lists.{T-true, T-false}
+use Rattle.temporal.specs.Bound.{above, below}
+use Rattle.temporal.proofs.Bound.{above_most}
 use Rattle.temporal.specs.Ticket as temporal
 use Rattle.temporal.specs.Ticket.{events, time}
-use Rattle.temporal.specs.Distance.{consistent, consistent_has, distance}
-use Rattle.temporal.specs.DistanceLaws.{distance_upper}
+use Rattle.temporal.specs.Distance.{consistent, distance}
+use Rattle.temporal.proofs.Distance.{consistent_has}
+use Rattle.temporal.proofs.DistanceLaws.{distance_upper}
 use Rattle.temporal.specs.Run.{Valid}
 use Rattle.network.specs.Stored.{at}
 use Rattle.ticket.specs.Writing.{content}
-use Rattle.ticket.specs.Content.{in_events, limits}
+use Rattle.ticket.proofs.Content.{in_events, limits}
 use Rattle.ticket.specs.declared.Ticket.{Ticket}
 use Rattle.potentials.specs.Arrays.{valid_given}
 use Rattle.schedule.specs.Times.{times_of, schedule_timed, timed_schedule}

@@ -9,10 +9,13 @@ use Rattle.temporal.specs.Lists.{All}
 use Rattle.temporal.specs.Bound.{above, below}
 use Rattle.temporal.specs.Ticket as temporal
 use Rattle.temporal.specs.Ticket.{Rule, Window, events, time, origin, window_of, fits, total_of}
-use Rattle.temporal.specs.Ends.{Ends, fits_ends, ends_fits, fit_ends}
+use Rattle.temporal.specs.Ends.{Ends}
+use Rattle.temporal.proofs.Ends.{fits_ends, ends_fits, fit_ends}
 use Rattle.temporal.specs.Distance.{consistent, distance}
-use Rattle.temporal.specs.Best.{Chosen, best, chosen_best, chosen_under}
-use Rattle.temporal.specs.FitSets.{fits_closed, still, at_still, schedule_fits}
+use Rattle.temporal.specs.Best.{Chosen, best}
+use Rattle.temporal.proofs.Best.{chosen_best, chosen_under}
+use Rattle.temporal.proofs.FitSets.{fits_closed, at_still, schedule_fits}
+use Rattle.temporal.specs.FitSets.{still}
 use Rattle.temporal.specs.Run.{Valid}
 use Rattle.network.specs.Stored.{at}
 use Rattle.network.specs.Grow.{Flowless}
@@ -20,8 +23,8 @@ use Rattle.flow.specs.Width.{LeastWidest}
 use Rattle.network.specs.Stored.{stored}
 use Rattle.flow.specs.Solve.{Spans}
 use Rattle.ticket.specs.Writing.{firsts, content}
-use Rattle.ticket.specs.WritingLaws.{length_firsts, get_d_firsts}
-use Rattle.ticket.specs.Content.{in_events}
+use Rattle.ticket.proofs.WritingLaws.{length_firsts, get_d_firsts}
+use Rattle.ticket.proofs.Content.{in_events}
 use Rattle.ticket.specs.declared.Ticket.{Ticket}
 use Rattle.potentials.specs.Arrays.{window_list, length_window_list, window_at_lem, Held, valid_given}
 use Rattle.potentials.specs.Nodes.{by_nodes, windows_of, potential_of, potential_open, potential_close}
@@ -32,11 +35,12 @@ use Rattle.windows.specs.Widest.{built_spans, potential_chosen}
 use Rattle.closure.specs.Signed.{bias, lower}
 use Rattle.closure.specs.Matrix.{entry}
 use Rattle.parts.specs.Part.{members, point, all_rules, distance_of, part_ticket, part_plan, part_total}
-use Rattle.parts.specs.AllRules.{rules_all, rules_cong, rules_most}
-use Rattle.parts.specs.Members.{point_most, members_few}
-use Rattle.parts.specs.PartDistance.{part_distinct}
-use Rattle.parts.specs.Parts.{part_chosen}
-use Rattle.parts.specs.PartEarliest.{earliest_times, earliest_above, time_earliest, part_earliest}
+use Rattle.parts.proofs.AllRules.{rules_all, rules_cong, rules_most}
+use Rattle.parts.proofs.Members.{point_most, members_few}
+use Rattle.parts.proofs.PartDistance.{part_distinct}
+use Rattle.parts.proofs.Parts.{part_chosen}
+use Rattle.parts.specs.PartEarliest.{earliest_times}
+use Rattle.parts.proofs.PartEarliest.{earliest_above, time_earliest, part_earliest}
 use Rattle.part_network.specs.Points.{Placed}
 use Rattle.part_network.specs.Lay.{bound_in, Ranged}
 use Rattle.part_network.specs.Dense.{dense, Small, dense_content, dense_held}

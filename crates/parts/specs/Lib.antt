@@ -21,15 +21,9 @@
 -- For the code: AllRules has the laws of the part's rules in their order, PartEarliest that the earliest times of its events are a schedule of the part.
 -- Examples has the parts of P1, and a ticket whose plan follows from its parts; OneEvent has the law by which both are known.
 pub mod Part
-pub mod AllRules
-pub mod Sums
 pub mod Members
-pub mod PartDistance
 pub mod PartEarliest
-pub mod PartFit
 pub mod PartTotal
-pub mod Parts
 pub mod Parting
 pub mod Parted
-pub mod OneEvent
 pub mod Examples

@@ -1,7 +1,6 @@
 -- One device's part on bytes (02, change 8), as a function of all that the call is lent: what is returned, and what the output holds afterwards.
 -- The bytes are `ticket`'s; the device's events, their part and its plan are Part's.
-use Rattle.std.specs.Prelude.{ℕ, ◌≤◌, ◌<◌, ◌≡◌, true, false, cond, List, ◌++◌, leb, length, get_or}
-use borrow.Author.Tests.{le-leb, lt-leb}
+use Rattle.std.specs.Prelude.{ℕ, cond, List, ◌++◌, leb, length, get_or}
 use Rattle.temporal.specs.Ticket.{Ticket, Window, origin}
 use Rattle.temporal.specs.Distance.{consistent}
 use Rattle.ticket.specs.Parser.{number, Out, wholly}
@@ -66,27 +65,3 @@ after_reading d out (Out.refused cause) = refusing (number cause) out
 -- the call: 10 is tested first; "a device above 4 gets 4, after 10"; then the ticket is read, to its end. 362 bytes hold the longest part.
 unfoldable pub parting : (ticket : List ℕ) (device : ℕ) (out : List ℕ) → Outcome
 parting ticket device out = cond (leb 362 (length out)) (cond (leb device 4) (after_reading device out (wholly read_ticket ticket)) (refusing 4 out)) (refusing 10 out)
-
--- ---- the same by cases
-
-module _ (ticket : List ℕ) (device : ℕ) (out : List ℕ) where
-  pub parting_short : length out < 362 → parting ticket device out ≡ refusing 10 out
-  unfolding parting
-  parting_short l = rw (lt-leb 362 (length out) l)
-
-  pub parting_unknown : 362 ≤ length out → 4 < device → parting ticket device out ≡ refusing 4 out
-  unfolding parting
-  parting_unknown l m = rw (le-leb 362 (length out) l, lt-leb device 4 m)
-
-  pub parting_read : 362 ≤ length out → device ≤ 4 → parting ticket device out ≡ after_reading device out (wholly read_ticket ticket)
-  unfolding parting
-  parting_read l m = rw (le-leb 362 (length out) l, le-leb device 4 m)
-
-module _ (d : ℕ) (k : Ticket) (out : List ℕ) where
-  pub parted_none : consistent k ≡ false → parted d k out ≡ refusing 9 out
-  unfolding parted
-  parted_none e = rw e
-
-  pub parted_some : consistent k ≡ true → parted d k out ≡ accepting d k out
-  unfolding parted
-  parted_some e = rw e

@@ -10,4 +10,3 @@ pub mod Rules
 pub mod Walks
 pub mod Repeats
 pub mod Shortest
-pub mod Structs

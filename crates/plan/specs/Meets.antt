@@ -16,10 +16,11 @@ use Rattle.ticket.specs.declared.ReadTicket.{ReadTicket}
 use Rattle.ticket.specs.declared.ReadRecord.{ReadRecord}
 use Rattle.causes.specs.Zeroed.{past, zeroed_rest}
 use Rattle.runs.specs.Calls.{Outcome, cleared, without_room, answered, after_reading, planning, planning_latest, commit_for, commit_read, committing}
-use Rattle.runs.specs.Calls.{enough_room, no_room_out, planning_short, planning_read, planning_latest_short, planning_latest_read, committing_short, committing_read}
-use Rattle.runs.specs.Calls.{commit_read_unknown, commit_read_known}
-use Rattle.runs.specs.Scratch.{Alike, read_alike, commit_read_alike}
-use Rattle.ticket.specs.Content.{read_refused, read_got, read_content}
+use Rattle.runs.proofs.Calls.{enough_room, no_room_out, planning_short, planning_read, planning_latest_short, planning_latest_read, committing_short, committing_read}
+use Rattle.runs.proofs.Calls.{commit_read_unknown, commit_read_known}
+use Rattle.runs.specs.Scratch.{Alike}
+use Rattle.runs.proofs.Scratch.{read_alike, commit_read_alike}
+use Rattle.ticket.proofs.Content.{read_refused, read_got, read_content}
 use Rattle.causes.specs.Structs as records
 use Rattle.plan.specs.Returned.{returned}
 use Rattle.plan.specs.declared.Answer.{Answer}

@@ -7,13 +7,13 @@ use Rattle.temporal.specs.Ticket.{Ticket}
 use Rattle.temporal.specs.Plan.{State, owner_of, raise, Commitment, accepted, refused, plan_for, cause, commit, asking}
 use Rattle.temporal.specs.Run.{Valid, Readable, Acceptable}
 use Rattle.temporal.specs.Run as states
-use Rattle.temporal.specs.Causes.{acceptable, cause_counts}
-use Rattle.temporal.specs.RunHolds as states_hold
-use Rattle.temporal.specs.LatestRun.{plan_for_lem}
+use Rattle.temporal.proofs.Causes.{acceptable, cause_counts}
+use Rattle.temporal.proofs.RunHolds as states_hold
+use Rattle.temporal.proofs.LatestRun.{plan_for_lem}
 use Rattle.network.specs.Stored.{at}
 use Rattle.ticket.specs.Writing.{content, state_of}
-use Rattle.ticket.specs.Agree.{counts_all}
-use Rattle.ticket.specs.Content.{in_events, in_rules}
+use Rattle.ticket.proofs.Agree.{counts_all}
+use Rattle.ticket.proofs.Content.{in_events, in_rules}
 use Rattle.ticket.specs.declared.Ticket.{Ticket as Struct}
 use Rattle.ticket.specs.declared.Record.{Record}
 use Rattle.potentials.specs.Arrays.{window_list, flag_list, Within}

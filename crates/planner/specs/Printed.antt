@@ -9,16 +9,17 @@ use Rattle.temporal.specs.Ticket.{Ticket, Window, events, origin, total}
 use Rattle.temporal.specs.Distance.{consistent}
 use Rattle.temporal.specs.Plan.{State, Answer, refused, accepted, planned, plan, planned_latest, plan_latest, plan_for}
 use Rattle.temporal.specs.Run.{Valid, Readable}
-use Rattle.temporal.specs.LatestRun.{plan_for_lem}
+use Rattle.temporal.proofs.LatestRun.{plan_for_lem}
 use Rattle.ticket.specs.Parser.{Cause, number, Out, got, refused, wholly}
-use Rattle.ticket.specs.RoundTrip.{Bytes, written_read, read_written_state, answered}
-use Rattle.ticket.specs.Prefix.{ticket_prefix}
-use Rattle.ticket.specs.Laws.{number_some}
+use Rattle.ticket.specs.RoundTrip.{Bytes}
+use Rattle.ticket.proofs.RoundTrip.{written_read, read_written_state, answered}
+use Rattle.ticket.proofs.Prefix.{ticket_prefix}
+use Rattle.ticket.proofs.Laws.{number_some}
 use Rattle.ticket.specs.Writer.{write_state}
 use Rattle.ticket.specs.Writing.{content, over}
 use Rattle.ticket.specs.Format.{read_ticket, read_state}
 use Rattle.ticket.specs.Stored.{pad, stored_state, whole_record}
-use Rattle.ticket.specs.Agree.{field_at, content_stored}
+use Rattle.ticket.proofs.Agree.{field_at, content_stored}
 use Rattle.ticket.specs.declared.Record.{Record}
 use Rattle.runs.specs.Calls.{Outcome}
 use Rattle.runs.specs.Calls as calls

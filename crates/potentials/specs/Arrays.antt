@@ -2,16 +2,18 @@
 -- What they hold is said by `ticket`'s `content` and `state_of`: places past the counts mean nothing. Rests on these and on temporal's definitions.
 use Rattle.std.specs.Prelude.{◌≡◌, refl, Bool, false, List, ℕ, ◌≤◌, ◌<◌, eqb, pos, length, get_or, set}
 use Rattle.std.proofs.Common.{sym, ap, ◌∙◌, arith}
-use Rattle.temporal.specs.Lists.{All, All-below, tab_set}
-use Rattle.temporal.specs.Bound.{above, below, above_most, below_most}
+use Rattle.temporal.specs.Lists.{All}
+use Rattle.temporal.proofs.Lists.{All-below, tab_set}
+use Rattle.temporal.specs.Bound.{above, below}
+use Rattle.temporal.proofs.Bound.{above_most, below_most}
 use Rattle.temporal.specs.Ticket as temporal
 use Rattle.temporal.specs.Ticket.{Rule, events, Window, origin}
-use Rattle.temporal.specs.Ends.{Lies}
+use Rattle.temporal.specs.Ticket.{Lies}
 use Rattle.temporal.specs.Run.{Valid, ValidRule}
 use Rattle.network.specs.Stored.{at}
 use Rattle.ticket.specs.Writing.{firsts, rule_in, content}
-use Rattle.ticket.specs.WritingLaws.{length_firsts, firsts_tab, get_d_firsts}
-use Rattle.ticket.specs.Content.{in_events, in_rules}
+use Rattle.ticket.proofs.WritingLaws.{length_firsts, firsts_tab, get_d_firsts}
+use Rattle.ticket.proofs.Content.{in_events, in_rules}
 use Rattle.ticket.specs.declared.Ticket.{Ticket}
 
 -- ---- what stands in the arrays

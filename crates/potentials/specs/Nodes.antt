@@ -5,7 +5,8 @@ use Rattle.std.proofs.Common.{sym, ap, ◌∙◌, subst, ⊎_elim, le-leb}
 use Prim.Native.Nat.{ℕ, zero, suc, ◌+◌, ◌*◌, ◌-◌, ◌≤◌, ◌<◌}
 use native.Mathlib.Omega.{arith}
 use Rattle.std.proofs.lemmas.Bool.{lt-leb}
-use Rattle.temporal.specs.Lists.{tab, length_tab, get_d_tab, below_or_not}
+use Rattle.temporal.specs.Lists.{tab}
+use Rattle.temporal.proofs.Lists.{length_tab, get_d_tab, below_or_not}
 use Rattle.temporal.specs.Ticket as temporal
 use Rattle.temporal.specs.Ticket.{Window, origin}
 

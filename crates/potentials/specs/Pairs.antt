@@ -6,11 +6,11 @@ use Rattle.std.proofs.Common.{sym, ◌∙◌, length-set, get_or-set_same, get_o
 use Rattle.std.proofs.Math.Bool.{cond}
 use native.Mathlib.Omega.{arith}
 use borrow.Author.Count.{below_none, below_more}
-use Rattle.temporal.specs.Lists.{tab_cong}
+use Rattle.temporal.proofs.Lists.{tab_cong}
 use Rattle.temporal.specs.Ticket.{Window}
 use Rattle.network.specs.Lists.{set_more}
 use Rattle.network.specs.Stored.{at}
-use Rattle.ticket.specs.WritingLaws.{firsts_tab}
+use Rattle.ticket.proofs.WritingLaws.{firsts_tab}
 use Rattle.potentials.specs.Arrays.{window_list, window_at_lem, Within, within_same}
 use Rattle.potentials.specs.Nodes.{by_nodes, windows_of, potential_of, potential_open, potential_close}
 

@@ -4,7 +4,7 @@ use Rattle.std.proofs.Common.{sym, ap, ◌∙◌}
 use Rattle.ticket.specs.Parser.{Cause, number, Out, got, refused}
 use Rattle.temporal.specs.Ticket.{Rule}
 use Rattle.ticket.specs.Format.{size, Front}
-use Rattle.ticket.specs.Laws.{was_refused, was_got}
+use Rattle.ticket.proofs.Laws.{was_refused, was_got}
 use Rattle.ticket.specs.Stored.{pad, answer}
 use Rattle.reading.specs.Parts.{fronted, owned, ruled, all_ruled, rules_of}
 use Rattle.reading.specs.declared.ReadFront.{ReadFront}

@@ -6,8 +6,9 @@ use Rattle.temporal.specs.Ticket.{Rule}
 use Rattle.ticket.specs.Format.{Front, read_owner, read_rule, read_front, read_rules}
 use Rattle.ticket.specs.Stored.{pad}
 use Rattle.reading.specs.Parts.{rules_of, owners_at, all_rules_at, front_at}
-use Rattle.ticket.specs.Width.{Fixed, stage, expect_fixed, little_fixed, bind_fixed, give_fixed, many_fixed, many_length}
-use Rattle.ticket.specs.Fields.{expect_true, owner_fixed, rule_fixed}
+use Rattle.ticket.specs.Width.{Fixed}
+use Rattle.ticket.proofs.Width.{stage, expect_fixed, little_fixed, bind_fixed, give_fixed, many_fixed, many_length}
+use Rattle.ticket.proofs.Fields.{expect_true, owner_fixed, rule_fixed}
 use Rattle.reading.specs.Answers.{front_done, owners_done, rules_done}
 use Rattle.reading.specs.declared.ReadFront.{ReadFront}
 use Rattle.reading.specs.declared.ReadOwners.{ReadOwners}

@@ -2,7 +2,7 @@
 use Rattle.std.specs.Prelude.{ℕ, ◌+◌, ◌≤◌, ◌<◌, ◌≡◌, List, [], ◌∷◌, length}
 use Rattle.std.proofs.Common.{ap, ◌∙◌, arith, length-append}
 use Rattle.ticket.specs.Parser.{Cause, trailing, number, Out, got, refused, Parser, wholly}
-use Rattle.ticket.specs.Laws.{was_refused, was_got}
+use Rattle.ticket.proofs.Laws.{was_refused, was_got}
 use Rattle.ticket.specs.RoundTrip.{Bytes, Back}
 
 -- p reads what w writes, in `size` bytes. f answers with the number `num` and the place `next`.

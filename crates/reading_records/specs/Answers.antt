@@ -3,7 +3,7 @@ use Rattle.std.specs.Prelude.{ℕ, ◌≡◌, refl, List}
 use Rattle.std.proofs.Common.{ap, ◌∙◌}
 use Rattle.ticket.specs.Parser.{Cause, number, Out, got, refused}
 use Rattle.ticket.specs.Format.{Entry}
-use Rattle.ticket.specs.Laws.{was_refused, was_got}
+use Rattle.ticket.proofs.Laws.{was_refused, was_got}
 use Rattle.reading_records.specs.Parts.{windowed, windows_of, all_windowed, counted, counts_of, all_counted}
 use Rattle.reading_records.specs.declared.ReadWindow.{ReadWindow}
 use Rattle.reading_records.specs.declared.ReadWindows.{ReadWindows}

@@ -4,9 +4,9 @@ use Rattle.std.proofs.Common.{ap, ◌∙◌, arith}
 use Rattle.ticket.specs.Parser.{Out, got, refused}
 use Rattle.ticket.specs.Format.{Entry, read_window, read_same, read_windows}
 use Rattle.reading_records.specs.Parts.{windows_of, window_section}
-use Rattle.ticket.specs.Laws.{number_some}
-use Rattle.ticket.specs.Width.{stage, many_length}
-use Rattle.ticket.specs.Fields.{same_fixed, windows_fixed}
+use Rattle.ticket.proofs.Laws.{number_some}
+use Rattle.ticket.proofs.Width.{stage, many_length}
+use Rattle.ticket.proofs.Fields.{same_fixed, windows_fixed}
 use Rattle.reading.specs.Rest.{left_at}
 use Rattle.reading_records.specs.Answers.{windows_done}
 use Rattle.ticket.specs.Writing.{verdict}

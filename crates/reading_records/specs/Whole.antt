@@ -9,10 +9,11 @@ use Rattle.ticket.specs.Format.{size, Entry, flags_in, windows_in, state_size, f
 use Rattle.ticket.specs.Writer.{flag_byte, write_ticket}
 use Rattle.ticket.specs.Stored.{pad, stored, answer, planned}
 use Rattle.reading_records.specs.Parts.{windows_of, counts_of}
-use Rattle.ticket.specs.Laws.{was_got}
+use Rattle.ticket.proofs.Laws.{was_got}
 use Rattle.ticket.specs.Writing.{firsts}
-use Rattle.ticket.specs.Agree.{content_stored, flags_stored}
-use Rattle.ticket.specs.RoundTrip.{Bytes, ticket_back, length_ticket}
+use Rattle.ticket.proofs.Agree.{content_stored, flags_stored}
+use Rattle.ticket.specs.RoundTrip.{Bytes}
+use Rattle.ticket.proofs.RoundTrip.{ticket_back, length_ticket}
 use Rattle.ticket.specs.declared.Ticket as struct
 use Rattle.ticket.specs.declared.ReadTicket.{ReadTicket}
 use Rattle.reading_records.specs.declared.ReadWindows.{ReadWindows}

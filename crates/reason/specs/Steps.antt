@@ -5,28 +5,29 @@ use Rattle.std.proofs.Common.{sym, subst, ◌∙◌, arith}
 use Rattle.std.proofs.Math.Path.{ap}
 use Rattle.std.proofs.Math.Dec.{not_T}
 use Rattle.std.proofs.Math.ListN.{length, length-append, length-replicate}
-use Rattle.temporal.specs.Lists.{All, T-true, T-false}
+use Rattle.temporal.specs.Lists.{All}
+use Rattle.temporal.proofs.Lists.{T-true, T-false}
 use Rattle.temporal.specs.Ticket as temporal
 use Rattle.temporal.specs.Ticket.{events}
 use Rattle.temporal.specs.Distance.{consistent}
 use Rattle.temporal.specs.Run.{Valid}
 use Rattle.ticket.specs.Writing.{content}
 use Rattle.ticket.specs.Stored.{pad, whole_ticket}
-use Rattle.ticket.specs.Content.{read_refused, read_got, read_content}
+use Rattle.ticket.proofs.Content.{read_refused, read_got, read_content}
 use Rattle.ticket.specs.declared.ReadTicket.{ReadTicket}
 use Rattle.text.specs.Stores.{Puts}
 use Rattle.writing.specs.Stores.{sets_over}
 use Rattle.names.specs.Names.{well_formed}
 use Rattle.paths.specs.Rules.{Number}
-use Rattle.paths.specs.Walks.{valid_points}
+use Rattle.paths.proofs.Walks.{valid_points}
 use Rattle.rings.specs.Ring.{ring}
-use Rattle.rings.specs.Printed.{ring_printed}
+use Rattle.rings.proofs.Printed.{ring_printed}
 use Rattle.ring.specs.Answer.{printed, printed_rules, printed_most, printed_none}
 use Rattle.ring.specs.declared.Found.{Found}
 use Rattle.reasons.specs.Text.{ring_text}
-use Rattle.reasons.specs.Size.{text_size}
+use Rattle.reasons.proofs.Size.{text_size}
 use Rattle.reasons.specs.Reasoning.{Outcome, refusing, printing, explaining, after_reading, reasoning}
-use Rattle.reasons.specs.Reasoning.{reasoning_read, explaining_possible, explaining_ring}
+use Rattle.reasons.proofs.Reasoning.{reasoning_read, explaining_possible, explaining_ring}
 use Rattle.reason.specs.Returned.{returned}
 use Rattle.reason.specs.declared.Answer.{Answer}
 

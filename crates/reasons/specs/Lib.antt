@@ -12,7 +12,6 @@
 -- Examples shows the definitions at work: the impossible tickets of 01's P6 and P7, and P1, on bytes (`examples_hold`).
 pub mod Text
 pub mod Reading
-pub mod Size
 pub mod Reasoning
 pub mod Reasoned
 pub mod Examples

@@ -1,8 +1,6 @@
 -- The call that prints the reason, on bytes (02, change 2), as a function of all that it is lent: what is returned, and what the output holds afterwards.
 -- The bytes are `ticket`'s and `names`', the ring is `rings`', the text Text's.
-use Rattle.std.specs.Prelude.{◌≡◌, Bool, true, false, cond, ◌&&◌, List, ℕ, ◌≤◌, ◌<◌, leb, length}
-use Rattle.std.proofs.Common.{le-leb}
-use Rattle.std.proofs.lemmas.Bool.{lt-leb}
+use Rattle.std.specs.Prelude.{Bool, cond, ◌&&◌, List, ℕ, leb, length}
 use Rattle.temporal.specs.Ticket.{Ticket, events}
 use Rattle.temporal.specs.Distance.{consistent}
 use Rattle.ticket.specs.Parser.{Out, number, wholly}
@@ -46,32 +44,3 @@ after_reading labels roster out (Out.refused cause) = refusing (number cause) ou
 unfoldable pub reasoning : (ticket labels roster out : List ℕ) → Outcome
 reasoning ticket labels roster out =
     cond (leb 2200 (length out)) (after_reading labels roster out (wholly read_ticket ticket)) (refusing 10 out)
-
--- ---- the same by cases
-
-module _ (ticket labels roster out : List ℕ) where
-  pub reasoning_short : length out < 2200 → reasoning ticket labels roster out ≡ refusing 10 out
-  unfolding reasoning
-  reasoning_short l = rw (lt-leb 2200 (length out) l)
-
-  pub reasoning_read : 2200 ≤ length out → reasoning ticket labels roster out ≡ after_reading labels roster out (wholly read_ticket ticket)
-  unfolding reasoning
-  reasoning_read l = rw (le-leb 2200 (length out) l)
-
-module _ (k : Ticket) (labels roster out : List ℕ) where
-  pub unlisted_labels : well_formed labels (events k) ≡ false → explaining k labels roster out ≡ refusing 16 out
-  unfolding explaining
-  unlisted_labels e = rw e
-
-  pub unlisted_roster : well_formed labels (events k) ≡ true → well_formed roster 5 ≡ false → explaining k labels roster out ≡ refusing 16 out
-  unfolding explaining
-  unlisted_roster e f = rw (e, f)
-
-  module _ (e : well_formed labels (events k) ≡ true) (f : well_formed roster 5 ≡ true) where
-    pub explaining_possible : consistent k ≡ true → explaining k labels roster out ≡ refusing 17 out
-    unfolding explaining
-    explaining_possible c = rw (e, f, c)
-
-    pub explaining_ring : consistent k ≡ false → explaining k labels roster out ≡ printing (ring_text k labels roster (ring k)) out
-    unfolding explaining
-    explaining_ring c = rw (e, f, c)

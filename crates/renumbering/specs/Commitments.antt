@@ -8,9 +8,11 @@ use Rattle.std.proofs.Math.Dec.{ltb, eqb}
 use Rattle.temporal.specs.Ticket.{Ticket, events, Window, origin, window_of}
 use Rattle.temporal.specs.Best.{best}
 use Rattle.temporal.specs.Plan.{State, owner_of, count_of, raise, Commitment, flagged, put, grows, window, no_event, not_inside, first, cause, committed, commit}
-use Rattle.temporal.specs.FitSets.{KeepsAt, Grows, test_grows, grows_test, grows_closed, put_same, put_other, length_put}
-use Rattle.temporal.specs.Answers.{commit_allows}
-use Rattle.runs.specs.SideBySide.{image_answer, commit_image}
+use Rattle.temporal.specs.FitSets.{KeepsAt, Grows}
+use Rattle.temporal.proofs.FitSets.{test_grows, grows_test, grows_closed, put_same, put_other, length_put}
+use Rattle.temporal.proofs.Answers.{commit_allows}
+use Rattle.runs.specs.SideBySide.{image_answer}
+use Rattle.runs.proofs.SideBySide.{commit_image}
 use Rattle.renumbering.specs.Order.{Order, inverse, reorder, length_reorder, old_point, old_event, past_same, start_same, at_point, at_new, reorder_is, reorder_start, reorder_undo}
 use Rattle.renumbering.specs.Renumber.{renumber, renumber_windows, renumber_flags, renumber_state, renumber_commitment, Lengths, events_renumber, renumber_undo}
 use Rattle.renumbering.specs.Schedules.{ends_in, fits_same}

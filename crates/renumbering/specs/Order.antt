@@ -7,7 +7,8 @@ use Rattle.std.proofs.lemmas.Bool.{lt-leb}
 use Rattle.std.proofs.Math.Dec.{eqb_refl}
 use Rattle.std.proofs.Math.ListN.{get_or}
 use Rattle.std.proofs.lemmas.List.{length-replicate}
-use Rattle.temporal.specs.Lists.{iff_same, All, All-at, All-tab, tab, length_tab, get_d_tab, tab_cong, get_d_past, below_or_not}
+use Rattle.temporal.proofs.Lists.{iff_same, All-at, All-tab, length_tab, get_d_tab, tab_cong, get_d_past, below_or_not}
+use Rattle.temporal.specs.Lists.{All, tab}
 
 -- ---- the definitions
 

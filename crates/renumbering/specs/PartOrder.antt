@@ -5,7 +5,8 @@ use Rattle.std.proofs.Common.{ap, subst, ◌∙◌, arith, le-leb}
 use Rattle.network.specs.Sum.{sum, sum_first}
 use Rattle.temporal.specs.Ticket.{Ticket, events}
 use Rattle.parts.specs.Part.{owned_from, members, point}
-use Rattle.parts.specs.Members.{Of, place, point_of, place_point, point_place}
+use Rattle.parts.proofs.Members.{Of, point_of, place_point, point_place}
+use Rattle.parts.specs.Members.{place}
 use Rattle.renumbering.specs.Order.{Order, inverse, order_on, new_point, at_new, at_old}
 use Rattle.renumbering.specs.Renumber.{renumber, events_renumber, renumber_undo}
 use Rattle.renumbering.specs.Totals.{sum_same}

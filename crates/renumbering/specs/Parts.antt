@@ -5,13 +5,16 @@ use Rattle.std.proofs.Common.{sym, ap, ap₂, subst, ◌∙◌, arith}
 use Rattle.std.proofs.lemmas.List.{length-replicate}
 use Rattle.temporal.specs.Bound.{above, below}
 use Rattle.temporal.specs.Ticket.{Rule, Ticket, events, Window, window_of, origin, Fit, total_of}
-use Rattle.temporal.specs.Ends.{Ends, ends_fit, fit_ends}
+use Rattle.temporal.specs.Ends.{Ends}
+use Rattle.temporal.proofs.Ends.{ends_fit, fit_ends}
 use Rattle.temporal.specs.Distance.{consistent, distance}
-use Rattle.temporal.specs.Best.{Chosen, chosen_unique}
+use Rattle.temporal.specs.Best.{Chosen}
+use Rattle.temporal.proofs.Best.{chosen_unique}
 use Rattle.parts.specs.Part.{members, point, distance_of, part_ticket, part_plan, part_total}
-use Rattle.parts.specs.Members.{Of, place, point_place}
-use Rattle.parts.specs.PartDistance.{part_events, distances_all, distances_at, part_distinct}
-use Rattle.parts.specs.Parts.{part_chosen}
+use Rattle.parts.proofs.Members.{Of, point_place}
+use Rattle.parts.specs.Members.{place}
+use Rattle.parts.proofs.PartDistance.{part_events, distances_all, distances_at, part_distinct}
+use Rattle.parts.proofs.Parts.{part_chosen}
 use Rattle.renumbering.specs.Order.{Order, inverse, new_point, old_point, at_new, at_old, reorder, length_reorder, reorder_start, reorder_replicate}
 use Rattle.renumbering.specs.Renumber.{renumber, renumber_windows}
 use Rattle.renumbering.specs.Schedules.{consistent_in, distance_old}

@@ -7,11 +7,12 @@ use Rattle.std.proofs.Math.Bool.{true, false, cond}
 use Rattle.std.proofs.Math.Dec.{T}
 use Rattle.std.proofs.Math.ListN.{replicate}
 use Rattle.temporal.specs.Ticket.{Ticket, events, Window, origin, window_of, fits, total}
-use Rattle.temporal.specs.Best.{best, best_latest, Chosen, ChosenLatest, Closed, best_chosen, chosen_best}
-use Rattle.temporal.specs.Latest.{best_latest_chosen, chosen_best_latest}
+use Rattle.temporal.specs.Best.{best, best_latest, Chosen, ChosenLatest, Closed}
+use Rattle.temporal.proofs.Best.{best_chosen, chosen_best}
+use Rattle.temporal.proofs.Latest.{best_latest_chosen, chosen_best_latest}
 use Rattle.temporal.specs.Distance.{consistent}
 use Rattle.temporal.specs.Plan.{refused, accepted, planned, plan, planned_latest, plan_latest}
-use Rattle.temporal.specs.FitSets.{fits_closed, consistent_fits}
+use Rattle.temporal.proofs.FitSets.{fits_closed, consistent_fits}
 use Rattle.runs.specs.SideBySide.{image_answer}
 use Rattle.renumbering.specs.Order.{Order, inverse, length_reorder, at_old, at_new, reorder_replicate, reorder_redo}
 use Rattle.renumbering.specs.Renumber.{renumber, renumber_windows, renumber_flags, renumber_state, events_renumber}

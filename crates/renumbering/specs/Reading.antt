@@ -2,7 +2,7 @@
 use Rattle.std.specs.Prelude.{◌≡◌, ℕ, ◌≤◌}
 use Rattle.std.proofs.Common.{sym, ap, ◌∙◌, arith}
 use Rattle.std.proofs.lemmas.List.{length-map}
-use Rattle.temporal.specs.Lists.{All-map, map-All}
+use Rattle.temporal.proofs.Lists.{All-map, map-All}
 use Rattle.temporal.specs.Ticket.{Rule, Ticket, events, origin, Lies}
 use Rattle.temporal.specs.Plan.{State}
 use Rattle.temporal.specs.Run.{ValidRule, Valid, Readable}

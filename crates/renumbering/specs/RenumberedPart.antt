@@ -4,19 +4,24 @@ use Rattle.std.specs.Prelude.{◌≡◌, refl, Bool, true, false, List, [], ◌�
 use Rattle.std.proofs.Common.{sym, ap, subst, ◌∙◌, ⊎_elim, arith}
 use mathlib.Core.List.Memᴰ
 use Rattle.std.proofs.Math.Seq.{take-append_seam}
-use Rattle.temporal.specs.Lists.{◌∈◌, All-∈, below_or_not}
+use Rattle.temporal.specs.Lists.{◌∈◌}
+use Rattle.temporal.proofs.Lists.{All-∈, below_or_not}
 use Rattle.temporal.specs.Ticket.{Ticket, events, window_of}
 use Rattle.temporal.specs.Distance.{consistent}
 use Rattle.temporal.specs.Run.{Valid}
 use Rattle.ticket.specs.Parser.{got, wholly}
 use Rattle.ticket.specs.Content.{HoldsTicket}
 use Rattle.ticket.specs.Writing.{firsts, over}
-use Rattle.ticket.specs.RoundTrip.{Bytes, written_read}
-use Rattle.ticket.specs.Agree.{all_firsts}
+use Rattle.ticket.specs.RoundTrip.{Bytes}
+use Rattle.ticket.proofs.RoundTrip.{written_read}
+use Rattle.ticket.proofs.Agree.{all_firsts}
 use Rattle.parts.specs.Part.{members, point, part_plan}
-use Rattle.parts.specs.Members.{member_owned, place, point_of, place_point}
-use Rattle.parts.specs.Parting.{Numbered, numbered_at, numbered, write_part, Outcome, refusing, accepting, parted, parting, parting_short, parting_unknown, parting_read, parted_none, parted_some}
-use Rattle.parts.specs.Parted.{read_part, part_read, length_part}
+use Rattle.parts.proofs.Members.{member_owned, point_of, place_point}
+use Rattle.parts.specs.Members.{place}
+use Rattle.parts.specs.Parting.{Numbered, numbered_at, numbered, write_part, Outcome, refusing, accepting, parted, parting}
+use Rattle.parts.proofs.Parting.{parting_short, parting_unknown, parting_read, parted_none, parted_some}
+use Rattle.parts.specs.Parted.{read_part}
+use Rattle.parts.proofs.Parted.{part_read, length_part}
 use Rattle.renumbering.specs.Order.{Order, inverse, new_event}
 use Rattle.renumbering.specs.Renumber.{renumber, events_renumber, renumber_undo}
 use Rattle.renumbering.specs.Schedules.{consistent_in}

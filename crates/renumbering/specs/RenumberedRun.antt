@@ -7,10 +7,12 @@ use Rattle.temporal.specs.Plan.{State}
 use Rattle.ticket.specs.Parser.{got, wholly}
 use Rattle.ticket.specs.Format.{read_ticket}
 use Rattle.ticket.specs.Writer.{write_ticket, write_state}
-use Rattle.ticket.specs.RoundTrip.{Bytes, read_written, written_read, read_written_state, written_read_state}
+use Rattle.ticket.specs.RoundTrip.{Bytes}
+use Rattle.ticket.proofs.RoundTrip.{read_written, written_read, read_written_state, written_read_state}
 use Rattle.runs.specs.Calls.{Outcome, planning, planning_latest}
 use Rattle.runs.specs.Run.{Call, Holds, Start, planned, given}
-use Rattle.runs.specs.SideBySide.{SideBySide, PlannedSideBySide, Carries, side_by_side, plans_side_by_side, latest_side_by_side}
+use Rattle.runs.specs.SideBySide.{SideBySide, PlannedSideBySide, Carries}
+use Rattle.runs.proofs.SideBySide.{side_by_side, plans_side_by_side, latest_side_by_side}
 use Rattle.renumbering.specs.Order.{Order}
 use Rattle.renumbering.specs.Renumber.{renumber, renumber_state, renumber_call}
 use Rattle.renumbering.specs.Totals.{total_same}

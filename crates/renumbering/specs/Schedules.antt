@@ -2,11 +2,13 @@
 use Rattle.std.specs.Prelude.{◌≡◌, List, ◌↔◌, ℕ, ◌+◌, ◌≤◌, T, length, ◌≤ℤ◌}
 use Rattle.std.proofs.Common.{sym, ap, ◌∙◌, subst, subst₂, arith}
 use Rattle.std.proofs.Math.IntN.{sub_ℕ}
-use Rattle.temporal.specs.Lists.{iff_same, All-map, map-All}
+use Rattle.temporal.proofs.Lists.{iff_same, All-map, map-All}
 use Rattle.temporal.specs.Bound.{AtMost, above, below}
 use Rattle.temporal.specs.Ticket.{Rule, Ticket, events, time, Schedule, Window, origin, window_of, Choice, Fit, fits}
-use Rattle.temporal.specs.Ends.{Ends, fits_ends, ends_fits}
-use Rattle.temporal.specs.Distance.{consistent, consistent_same, distance, distance_attained, distance_most, distance_is}
+use Rattle.temporal.specs.Ends.{Ends}
+use Rattle.temporal.proofs.Ends.{fits_ends, ends_fits}
+use Rattle.temporal.specs.Distance.{consistent, distance}
+use Rattle.temporal.proofs.Distance.{consistent_same, distance_attained, distance_most, distance_is}
 use Rattle.renumbering.specs.Order.{Order, inverse, length_reorder, at_old, at_new, All-reorder, reorder_undo, reorder_redo}
 use Rattle.renumbering.specs.Renumber.{renumber_rule, renumber, renumber_ticks, renumber_windows, events_renumber, renumber_undo}
 

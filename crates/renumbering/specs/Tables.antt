@@ -10,7 +10,7 @@ use Rattle.std.proofs.lemmas.List.{length-map}
 use Rattle.temporal.specs.Ticket.{Rule}
 use Rattle.temporal.specs.Distance.{consistent, distance}
 use Rattle.temporal.specs.Table.{ticket_of, or_else, rule_cause, rules_cause, cause, rows, filled, table_of}
-use Rattle.temporal.specs.TableCauses.{accepted_consistent, ticket_events, refuses, accepts}
+use Rattle.temporal.proofs.TableCauses.{accepted_consistent, ticket_events, refuses, accepts}
 use Rattle.renumbering.specs.Order.{Order, equal_same, past_same, reorder_replicate}
 use Rattle.renumbering.specs.Renumber.{renumber_rule, renumber}
 use Rattle.renumbering.specs.Schedules.{consistent_in, distance_old}

@@ -1,7 +1,7 @@
 -- The first number from 1 on that something holds of, as a loop finds it, and as several loops do one after the other. Rests on rings' First.
 use Rattle.std.specs.Prelude.{◌≡◌, Bool, ◌⊎◌, ℕ, suc, ◌+◌, ◌≤◌, ◌<◌, T}
 use Rattle.std.proofs.Common.{subst, ⊎_elim, arith}
-use Rattle.temporal.specs.Lists.{below_or_not}
+use Rattle.temporal.proofs.Lists.{below_or_not}
 use Rattle.rings.specs.Order.{First}
 
 -- e is the first number from 1 on and below b that P holds of; b if there is none

@@ -12,13 +12,14 @@ use Rattle.temporal.specs.Ticket as temporal
 use Rattle.temporal.specs.Ticket.{Rule, events}
 use Rattle.temporal.specs.Run.{Valid}
 use Rattle.ticket.specs.Writing.{rule_in, content}
-use Rattle.ticket.specs.Content.{limits}
+use Rattle.ticket.proofs.Content.{limits}
 use Rattle.ticket.specs.declared.Ticket.{Ticket}
 use Rattle.demands.specs.Cost.{bound_fits}
 use Rattle.paths.specs.Rules.{back, out, size, rule_at, from_of, to_of, bound_of}
-use Rattle.paths.specs.Walks.{rule_points, valid_points, bound_below, bound_above}
-use Rattle.paths.specs.Structs.{written_in, back_in, out_in}
-use Rattle.rings.specs.Costs.{cost, cost_back, cost_out, cost_most}
+use Rattle.paths.proofs.Walks.{rule_points, valid_points, bound_below, bound_above}
+use Rattle.paths.proofs.Structs.{written_in, back_in, out_in}
+use Rattle.rings.specs.Costs.{cost}
+use Rattle.rings.proofs.Costs.{cost_back, cost_out, cost_most}
 
 -- ---- what stands in the arrays
 

@@ -7,16 +7,19 @@ use Rattle.std.proofs.Math.Path.{ap}
 use Rattle.std.proofs.Math.Bool.{Bool}
 use mathlib.Core.List.{List, [], ◌∷◌, ◌++◌, append_assoc, append-nil}
 use Prim.Native.Nat.{ℕ, suc, ◌+◌, ◌*◌, ◌-◌, ◌≤◌, ◌<◌}
-use Rattle.temporal.specs.Lists.{below_or_not}
+use Rattle.temporal.proofs.Lists.{below_or_not}
 use Rattle.temporal.specs.Ticket.{Ticket, events}
 use Rattle.ticket.specs.Stored.{pad}
-use Rattle.ticket.specs.Laws.{pad_set}
-use Rattle.rings.specs.Order.{First, seek_is, seek_none, any_upto, any_has, has_any}
+use Rattle.ticket.proofs.Laws.{pad_set}
+use Rattle.rings.specs.Order.{First, any_upto}
+use Rattle.rings.proofs.Order.{seek_is, seek_none, any_has, has_any}
 use Rattle.paths.specs.Rules.{size, from_of, to_of}
 use Rattle.rings.specs.Ring.{ring}
-use Rattle.rings.specs.Costs.{top, cost, walks, via_least, walks_more}
-use Rattle.rings.specs.Greedy.{through, shortest, starts, continues, rest, greedy, found, ring_found}
-use Rattle.rings.specs.Greedy.{through_iff, starts_iff, starts_some, greedy_more, continues_iff, continues_some, rest_more}
+use Rattle.rings.specs.Costs.{top, cost, walks}
+use Rattle.rings.proofs.Costs.{via_least, walks_more}
+use Rattle.rings.specs.Greedy.{through, shortest, starts, continues, rest, greedy, found}
+use Rattle.rings.proofs.Greedy.{ring_found}
+use Rattle.rings.proofs.Greedy.{through_iff, starts_iff, starts_some, greedy_more, continues_iff, continues_some, rest_more}
 use Rattle.ring.specs.declared.Found.{Found}
 use Rattle.ring.specs.declared.Start.{Start}
 use Rattle.ring.specs.Answer.{printed}

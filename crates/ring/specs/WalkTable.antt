@@ -7,7 +7,8 @@ use Rattle.std.proofs.Math.ListN.{get_or, length-set}
 use Rattle.std.proofs.Math.Seq.{get_or-set_same, get_or-set_other}
 use Rattle.temporal.specs.Ticket.{Ticket}
 use Rattle.paths.specs.Rules.{from_of, to_of}
-use Rattle.rings.specs.Costs.{top, cost, via, walks, via_here, via_there, walks_here, walks_there, walks_more}
+use Rattle.rings.specs.Costs.{top, cost, via, walks}
+use Rattle.rings.proofs.Costs.{via_here, via_there, walks_here, walks_there, walks_more}
 use Rattle.ring.specs.Places.{Small, Whole, to_point}
 
 -- row r, column p

@@ -10,7 +10,7 @@ use Rattle.names.specs.Names.{name_at, HasName}
 use Rattle.names.specs.Laws.{has_name}
 use Rattle.text.specs.Text.{decimal, line}
 use Rattle.reasons.specs.Text.{signed_decimal, at_line, point_line, rule_line}
-use Rattle.reasons.specs.Size.{point_size, rule_size}
+use Rattle.reasons.proofs.Size.{point_size, rule_size}
 use Rattle.ring_text.specs.Sheet.{Sheet, from_in, bound_in, start_line, rule_text, point_text, Writable, point_known, bound_known}
 
 -- a bound with its sign: as it is, or '-' and what is taken from -1, plus 1

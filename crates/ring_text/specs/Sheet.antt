@@ -6,19 +6,20 @@ use Rattle.std.proofs.Math.Path.{refl, ap, ap₂}
 use Rattle.std.proofs.Common.{sym, ◌∙◌, ⊎_elim, arith}
 use mathlib.Core.List.{List, [], ◌∷◌, ◌++◌}
 use borrow.Author.Tests.{le-leb, lt-leb, eq-eqb, ne_eqb}
-use Rattle.temporal.specs.Lists.{All, All-at, below_or_not}
+use Rattle.temporal.specs.Lists.{All}
+use Rattle.temporal.proofs.Lists.{All-at, below_or_not}
 use Rattle.temporal.specs.Ticket.{Rule, events}
 use Rattle.temporal.specs.Run.{Valid}
 use Rattle.ticket.specs.Writing.{owner_in, content}
-use Rattle.ticket.specs.WritingLaws.{get_d_firsts}
-use Rattle.ticket.specs.Content.{in_events, in_rules}
+use Rattle.ticket.proofs.WritingLaws.{get_d_firsts}
+use Rattle.ticket.proofs.Content.{in_events, in_rules}
 use Rattle.ticket.specs.declared.Ticket.{Ticket}
 use Rattle.names.specs.Names.{well_formed, name_at}
 use Rattle.paths.specs.Rules.{from_of, bound_of, Number}
-use Rattle.paths.specs.Walks.{rule_points, valid_points}
-use Rattle.paths.specs.Structs.{written_in, back_in, out_in}
+use Rattle.paths.proofs.Walks.{rule_points, valid_points}
+use Rattle.paths.proofs.Structs.{written_in, back_in, out_in}
 use Rattle.reasons.specs.Text.{at_line, point_line, rule_line, ring_text}
-use Rattle.reasons.specs.Size.{bound_small}
+use Rattle.reasons.proofs.Size.{bound_small}
 
 -- ---- the definitions
 

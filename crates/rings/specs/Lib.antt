@@ -18,8 +18,6 @@ pub mod Order
 pub mod Turns
 pub mod Ring
 pub mod Loops
-pub mod Shorten
-pub mod Schedules
 pub mod Printed
 pub mod Costs
 pub mod Greedy

@@ -19,6 +19,5 @@ pub mod Grid
 pub mod Round
 pub mod Scale
 pub mod Rounded
-pub mod Finer
 pub mod FinerRun
 pub mod Examples

@@ -22,7 +22,6 @@
 -- That the code is these functions is said by its contracts, in crate `plan`.
 pub mod Calls
 pub mod Run
-pub mod RunHolds
 pub mod Refusals
 pub mod FromRecord
 pub mod Latest

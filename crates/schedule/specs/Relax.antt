@@ -1,7 +1,7 @@
 -- The relaxation: what one rule and one round leave, and which rules hold then.
 use Rattle.std.specs.Prelude.{ℕ, ◌+◌, ◌≤◌, ◌<◌, ◌≡◌, refl, List, ℤ, pos, get_or}
 use Rattle.std.proofs.Common.{sym, subst, ⊎_elim, arith}
-use Rattle.temporal.specs.Lists.{below_or_not}
+use Rattle.temporal.proofs.Lists.{below_or_not}
 use Rattle.temporal.specs.Bound.{biased}
 use Rattle.network.specs.Stored.{at}
 use Rattle.ticket.specs.declared.Ticket.{Ticket}

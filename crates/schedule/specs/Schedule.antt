@@ -3,7 +3,7 @@
 use Rattle.std.specs.Prelude.{ℕ, zero, suc, ◌+◌, ◌*◌, ◌-◌, ◌≤◌, ◌<◌, ◌≡◌, refl, Bool, true, false, List, pos, length, get_or, set, replicate}
 use Rattle.std.proofs.Common.{sym, ◌∙◌, subst, ⊎_elim, arith, below_none, length-set, get_or-set_same, get_or-set_other}
 use Rattle.std.proofs.lemmas.List.{length-replicate, get_or-replicate}
-use Rattle.temporal.specs.Lists.{below_or_not}
+use Rattle.temporal.proofs.Lists.{below_or_not}
 use Rattle.temporal.specs.Bound.{biased}
 use Rattle.network.specs.Lists.{zeros_at, differ}
 use Rattle.network.specs.Network.{Meets}

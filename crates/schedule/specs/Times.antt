@@ -1,13 +1,14 @@
 -- The times of a schedule, as a potential of the points: a schedule keeps the rules exactly when its times do. Rests on temporal's Schedule.
 use Rattle.std.specs.Prelude.{◌≡◌, List, ◌∷◌, ℕ, zero, suc, ◌≤◌, ◌<◌, length, get_or}
 use Rattle.std.proofs.Common.{sym, ◌∙◌, arith}
-use Rattle.temporal.specs.Lists.{All-at, below-All, tab, length_tab, get_d_tab}
+use Rattle.temporal.proofs.Lists.{All-at, below-All, length_tab, get_d_tab}
+use Rattle.temporal.specs.Lists.{tab}
 use Rattle.temporal.specs.Bound.{AtMost}
 use Rattle.temporal.specs.Ticket.{Rule, time, Schedule}
 use Rattle.network.specs.Stored.{at}
 use Rattle.ticket.specs.declared.Ticket.{Ticket}
 use Rattle.ticket.specs.Writing.{content}
-use Rattle.ticket.specs.Content.{in_events}
+use Rattle.ticket.proofs.Content.{in_events}
 use Rattle.potentials.specs.Arrays.{Given}
 use Rattle.potentials.specs.Nodes.{close_self}
 use Rattle.demands.specs.Rules.{rule_of_lem, of_rules, biased_rule, signed_rule, Obeyed}

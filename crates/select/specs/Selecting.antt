@@ -6,11 +6,13 @@ use Rattle.std.proofs.Math.Dec.{not_T}
 use Rattle.std.proofs.Math.ListN.{get_or-append}
 use Rattle.std.proofs.Math.Seq.{get_or-append_seam}
 use Rattle.std.specs.Int.{w32}
-use Rattle.temporal.specs.Lists.{All, T-true, T-false, All-join, All-below}
+use Rattle.temporal.specs.Lists.{All}
+use Rattle.temporal.proofs.Lists.{T-true, T-false, All-join, All-below}
 use Rattle.temporal.specs.Bound.{biased}
 use Rattle.temporal.specs.Ticket as temporal
 use Rattle.temporal.specs.Ticket.{Rule, events}
-use Rattle.temporal.specs.Distance.{consistent, consistent_has}
+use Rattle.temporal.specs.Distance.{consistent}
+use Rattle.temporal.proofs.Distance.{consistent_has}
 use Rattle.temporal.specs.Run.{Valid, ValidRule}
 use Rattle.network.specs.Stored.{at}
 use Rattle.network.specs.Grow.{Growing}
@@ -18,9 +20,9 @@ use Rattle.network.specs.Edges.{extends_edge, Boxes, boxes_kept}
 use Rattle.admit.specs.Admit.{Admits}
 use Rattle.ticket.specs.Writing.{rule_in, firsts, content}
 use Rattle.ticket.specs.Stored.{pad}
-use Rattle.ticket.specs.Laws.{pad_set, pad_map}
-use Rattle.ticket.specs.Agree.{field_at, firsts_cong, firsts_all}
-use Rattle.ticket.specs.Content.{in_rules}
+use Rattle.ticket.proofs.Laws.{pad_set, pad_map}
+use Rattle.ticket.proofs.Agree.{field_at, firsts_cong, firsts_all}
+use Rattle.ticket.proofs.Content.{in_rules}
 use Rattle.ticket.specs.declared.Ticket.{Ticket}
 use Rattle.potentials.specs.Arrays.{no_rule, Given, rule_in_lem, valid_given}
 use Rattle.demands.specs.Rules.{SmallRule, given_small, given_bound}

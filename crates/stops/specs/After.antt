@@ -1,8 +1,6 @@
 -- The table after some stops, on bytes (02, change 3), as a function of all that the call is lent: its number, and what the output holds afterwards.
 -- The bytes are `ticket`'s, the rows temporal's, the entries `closure`'s. What the entries are is proved in Meant.
-use Rattle.std.specs.Prelude.{ℕ, ◌+◌, ◌*◌, ◌≤◌, ◌<◌, min, ◌≡◌, true, false, cond, List, ◌++◌, leb, ℤ, length, drop}
-use Rattle.std.proofs.Common.{le-leb}
-use Rattle.std.proofs.lemmas.Bool.{lt-leb}
+use Rattle.std.specs.Prelude.{ℕ, ◌+◌, ◌*◌, min, cond, List, ◌++◌, leb, ℤ, length, drop}
 use Rattle.temporal.specs.Ticket.{Ticket, events}
 use Rattle.temporal.specs.Distance.{consistent}
 use Rattle.temporal.specs.Table.{rows}
@@ -36,23 +34,3 @@ after_reading s out (Out.refused cause) = (number cause, out)
 -- the call: 10 is tested first, then the ticket is read, to its end
 unfoldable pub table_after : List ℕ → ℕ → List ℤ → ℕ × List ℤ
 table_after ticket s out = cond (leb 1681 (length out)) (after_reading s out (wholly read_ticket ticket)) (10, out)
-
--- ---- the same by cases
-
-module _ (ticket : List ℕ) (s : ℕ) (out : List ℤ) where
-  pub after_short : length out < 1681 → table_after ticket s out ≡ (10, out)
-  unfolding table_after
-  after_short l = rw (lt-leb 1681 (length out) l)
-
-  pub after_read : 1681 ≤ length out → table_after ticket s out ≡ after_reading s out (wholly read_ticket ticket)
-  unfolding table_after
-  after_read l = rw (le-leb 1681 (length out) l)
-
-module _ (k : Ticket) (s : ℕ) (out : List ℤ) where
-  pub worked_none : consistent k ≡ false → worked k s out ≡ (9, out)
-  unfolding worked
-  worked_none e = rw e
-
-  pub worked_some : consistent k ≡ true → worked k s out ≡ (0, working k s out)
-  unfolding worked
-  worked_some e = rw e

@@ -8,4 +8,3 @@ pub mod After
 pub mod Meant
 pub mod Worked
 pub mod Examples
-pub mod Steps

@@ -2,7 +2,8 @@
 use Rattle.std.specs.Prelude.{ℕ, zero, suc, ◌+◌, ◌<◌, ◌≡◌, List, [], ◌∷◌, ◌++◌, map, ℤ, pos, length, get_or, set}
 use Rattle.std.proofs.Math.Path.{refl}
 use Rattle.std.proofs.Common.{sym, ap, ap₂, ◌∙◌, add-one, arith, length-set, get_or-set_same, get_or-set_other}
-use Rattle.temporal.specs.Lists.{tab, tab_cong}
+use Rattle.temporal.specs.Lists.{tab}
+use Rattle.temporal.proofs.Lists.{tab_cong}
 use Rattle.temporal.specs.Ticket as temporal
 use Rattle.table.specs.Lent.{rule_of, flat_at, rules_of}
 use Rattle.table.specs.declared.Rule.{Rule}

@@ -1,36 +1,11 @@
 -- A record in the layout before change 5 of 02, with one number for all devices after its windows, is refused: where its number is not 5 for the
 -- layout, and otherwise for its end, since the number stands where that of the devices does. Assumes nothing.
-use Rattle.std.specs.Prelude.{ℕ, ◌<◌, ◌≡◌, refl, ◌≢◌, length}
-use Rattle.std.proofs.Common.{subst, ◌∙◌, arith}
-use mathlib.Core.List.{List, [], ◌++◌, append-nil}
-use Rattle.temporal.specs.Lists.{All, tab}
+use Rattle.std.specs.Prelude.{ℕ, length}
+use mathlib.Core.List.{List, [], ◌++◌}
 use Rattle.temporal.specs.Ticket.{Ticket}
-use Rattle.temporal.specs.Run.{Valid, device_flags}
-use Rattle.ticket.specs.Parser.{Cause, short, layout, got, refused, little, wholly}
-use Rattle.ticket.specs.Format.{Entry, flags_in, each_count, read_counts, flag_counts, read_state}
+use Rattle.ticket.specs.Format.{Entry}
 use Rattle.ticket.specs.Writer.{bytes, each, write_ticket, write_window}
-use Rattle.ticket.specs.Laws.{little_short}
-use Rattle.ticket.specs.Stages.{bad_counts, other_devices, same_devices, other_number, same_number, no_count_lem}
-use Rattle.ticket.specs.RoundTrip.{little_forth, ticket_forth, LiesIn, windows_forth}
 
 -- The ticket, the windows with their flags, the number.
 abbrev pub former_bytes : Ticket → List Entry → ℕ → List ℕ
 former_bytes t es k = write_ticket t ++ (bytes 2 (length t.owners) ++ (each write_window es ++ bytes 2 k))
-
-module _ (t : Ticket) (es : List Entry) (valid : Valid t) (long : length es ≡ length t.owners) (lies : All (LiesIn t.horizon) es) where
-  counts_refused : (k : ℕ) (c : Cause) → read_counts (flag_counts t.owners (flags_in es)) (bytes 2 k) ≡ refused c → wholly read_state (former_bytes t es k) ≡ refused c
-  counts_refused k c e =
-      rw (bad_counts (former_bytes t es k) t _ (ticket_forth t _ valid) es (bytes 2 k)
-      (windows_forth (length t.owners) t.horizon es (bytes 2 k) valid.events_limit valid.horizon_limit long lies) c e)
-
-  number_read : (k : ℕ) → k < 65536 → little 2 (bytes 2 k) ≡ got k []
-  number_read k l = subst (λ (b : List ℕ). little 2 b ≡ got k []) (append-nil (bytes 2 k)) (little_forth 2 k [] (omega arith))
-
-  pub former_layout : (k : ℕ) → k < 65536 → k ≢ 5 → wholly read_state (former_bytes t es k) ≡ refused layout
-  former_layout k l n = counts_refused k layout (other_devices _ (bytes 2 k) layout (other_number 5 (bytes 2 k) k [] (number_read k l) n))
-
-  pub former_short : wholly read_state (former_bytes t es 5) ≡ refused short
-  unfolding each_count tab
-  former_short =
-      counts_refused 5 short
-      (same_devices _ (bytes 2 5) [] (same_number 5 (bytes 2 5) 5 [] (number_read 5 (omega arith)) refl) ∙ rw (no_count_lem (device_flags 0 t.owners (flags_in es)) [] (little_short 2 [] (omega arith))))

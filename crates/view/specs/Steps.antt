@@ -12,8 +12,9 @@ use Rattle.ticket.specs.RoundTrip.{Bytes}
 use Rattle.ticket.specs.declared.ReadRecord.{ReadRecord}
 use Rattle.writing.specs.Stores.{sets_over}
 use Rattle.causes.specs.Structs.{read_refused, read_got, read_state_lem}
-use Rattle.viewing.specs.View.{seen, write_seen, write_view, view, Outcome, refusing, viewed, after_reading, viewing, viewing_read, viewed_fit}
-use Rattle.viewing.specs.Laws.{length_view, view_fits}
+use Rattle.viewing.specs.View.{seen, write_seen, write_view, view, Outcome, refusing, viewed, after_reading, viewing}
+use Rattle.viewing.proofs.View.{viewing_read, viewed_fit}
+use Rattle.viewing.proofs.Laws.{length_view, view_fits}
 use Rattle.view.specs.Returned.{returned}
 use Rattle.view.specs.Stored.{count_last}
 use Rattle.view.specs.declared.Answer.{Answer}

@@ -5,15 +5,15 @@ use Rattle.std.proofs.Math.Path.{ap}
 use Rattle.std.proofs.lemmas.List.Edits.{sets}
 use Rattle.temporal.specs.Ticket.{origin}
 use Rattle.network.specs.Stored.{at}
-use Rattle.ticket.specs.Fields.{flag_kept}
+use Rattle.ticket.proofs.Fields.{flag_kept}
 use Rattle.ticket.specs.Writer.{bytes, each, window_bytes, write_window}
 use Rattle.ticket.specs.Writing.{owner_in, committed_in, window_in, state_of}
-use Rattle.ticket.specs.WritingLaws.{get_d_firsts}
-use Rattle.ticket.specs.RoundTrip.{length_each}
+use Rattle.ticket.proofs.WritingLaws.{get_d_firsts}
+use Rattle.ticket.proofs.RoundTrip.{length_each}
 use Rattle.ticket.specs.declared.Record.{Record}
 use Rattle.writing.specs.Stores.{each_append, sets_then}
 use Rattle.viewing.specs.View.{may_see, Seen, seen_if, seen_to, write_seen}
-use Rattle.viewing.specs.Laws.{length_seen}
+use Rattle.viewing.proofs.Laws.{length_seen}
 
 -- an event with its flag and its window
 abbrev pub seen_of : (event flag opens closes : ℕ) → Seen

@@ -1,7 +1,6 @@
 -- What a device sees of a record (02, change 11), its bytes, and the call that shows it, as a function of all that it is lent: what is returned, and what the
 -- output holds afterwards. What is seen is `temporal`'s, the bytes are `ticket`'s.
-use Rattle.std.specs.Prelude.{◌≡◌, Bool, true, false, cond, ◌||◌, List, [], ◌∷◌, ◌++◌, ℕ, zero, suc, ◌≤◌, ◌<◌, leb, ltb, eqb, length, take}
-use borrow.Author.Tests.{le-leb, lt-leb, lt-ltb, le-ltb}
+use Rattle.std.specs.Prelude.{Bool, cond, ◌||◌, List, [], ◌∷◌, ◌++◌, ℕ, zero, suc, leb, ltb, eqb, length, take}
 use Rattle.temporal.specs.Ticket.{events, window_of, fits}
 use Rattle.temporal.specs.Plan.{State, owner_of, flagged}
 use Rattle.ticket.specs.Parser.{Parser, Out, ◌>>=◌, give, byte, little, many, number, wholly}
@@ -93,27 +92,3 @@ after_reading caller out (Out.refused cause) = refusing (number cause) out
 unfoldable pub viewing : (bytes : List ℕ) (caller : ℕ) (out : List ℕ) → Outcome
 viewing bytes caller out =
     cond (leb 402 (length out)) (cond (ltb 4 caller) (refusing 19 out) (after_reading caller out (wholly read_state bytes))) (refusing 10 out)
-
--- ---- the same by cases
-
-module _ (bytes : List ℕ) (caller : ℕ) (out : List ℕ) where
-  pub viewing_short : length out < 402 → viewing bytes caller out ≡ refusing 10 out
-  unfolding viewing
-  viewing_short l = rw (lt-leb 402 (length out) l)
-
-  pub viewing_unknown : 402 ≤ length out → 4 < caller → viewing bytes caller out ≡ refusing 19 out
-  unfolding viewing
-  viewing_unknown l m = rw (le-leb 402 (length out) l, lt-ltb 4 caller m)
-
-  pub viewing_read : 402 ≤ length out → caller ≤ 4 → viewing bytes caller out ≡ after_reading caller out (wholly read_state bytes)
-  unfolding viewing
-  viewing_read l m = rw (le-leb 402 (length out) l, le-ltb 4 caller m)
-
-module _ (caller : ℕ) (s : State) (out : List ℕ) where
-  pub viewed_unfit : fits s.ticket s.windows ≡ false → viewed caller s out ≡ refusing 15 out
-  unfolding viewed
-  viewed_unfit e = rw e
-
-  pub viewed_fit : fits s.ticket s.windows ≡ true → viewed caller s out ≡ showing (view caller s) out
-  unfolding viewed
-  viewed_fit e = rw e

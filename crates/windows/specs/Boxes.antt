@@ -3,17 +3,20 @@
 use Rattle.std.specs.Prelude.{◌≡◌, Bool, true, false, cond, List, length, replicate, ℕ, zero, suc, ◌+◌, ◌*◌, ◌≤◌, ◌<◌}
 use Rattle.std.proofs.Common.{◌∙◌, arith}
 use Rattle.std.proofs.lemmas.List.{get_or-replicate}
-use Rattle.temporal.specs.Lists.{All, below-All}
+use Rattle.temporal.specs.Lists.{All}
+use Rattle.temporal.proofs.Lists.{below-All}
 use Rattle.temporal.specs.Ticket as temporal
 use Rattle.temporal.specs.Ticket.{Window, origin}
-use Rattle.temporal.specs.Ends.{Ends, Lies}
-use Rattle.temporal.specs.Best.{Chosen, chosen_under}
+use Rattle.temporal.specs.Ends.{Ends}
+use Rattle.temporal.specs.Ticket.{Lies}
+use Rattle.temporal.specs.Best.{Chosen}
+use Rattle.temporal.proofs.Best.{chosen_under}
 use Rattle.temporal.specs.Plan.{flagged}
 use Rattle.temporal.specs.FitSets.{KeepsAt, Grows}
 use Rattle.network.specs.Stored.{at}
 use Rattle.ticket.specs.declared.Ticket.{Ticket}
 use Rattle.ticket.specs.Writing.{content}
-use Rattle.ticket.specs.Content.{in_events}
+use Rattle.ticket.proofs.Content.{in_events}
 use Rattle.potentials.specs.Arrays.{Held, Given}
 use Rattle.potentials.specs.Nodes.{by_nodes, potential_of, potential_open, potential_close}
 use Rattle.demands.specs.Rules.{ends_obeyed, obeyed_ends}

@@ -7,22 +7,25 @@ use native.Mathlib.Omega.{arith}
 use Rattle.std.proofs.Math.Dec.{eqb}
 use Rattle.std.proofs.lemmas.List.{length-replicate}
 use Rattle.std.proofs.Math.Seq.{get_or-set_same, get_or-set_other}
-use Rattle.temporal.specs.Lists.{below-All}
+use Rattle.temporal.proofs.Lists.{below-All}
 use Rattle.temporal.specs.Ticket as temporal
 use Rattle.temporal.specs.Ticket.{events, Window, origin}
-use Rattle.temporal.specs.Ends.{Ends, Lies, schedule_test, fit_ends}
+use Rattle.temporal.specs.Ends.{Ends}
+use Rattle.temporal.specs.Ticket.{Lies}
+use Rattle.temporal.proofs.Ends.{schedule_test, fit_ends}
 use Rattle.temporal.specs.Best.{Chosen}
 use Rattle.temporal.specs.Plan.{owner_of, raise, asking, accepted, refused, put, plan, cause, commit}
-use Rattle.temporal.specs.FitSets.{Grows, narrowed, test_grows, itself_grows}
-use Rattle.temporal.specs.Answers.{plan_is, plan_refused, commit_is}
+use Rattle.temporal.specs.FitSets.{Grows}
+use Rattle.temporal.proofs.FitSets.{narrowed, test_grows, itself_grows}
+use Rattle.temporal.proofs.Answers.{plan_is, plan_refused, commit_is}
 use Rattle.temporal.specs.Run.{Valid, Acceptable}
-use Rattle.temporal.specs.Causes.{acceptable, cause_counts}
-use Rattle.temporal.specs.RunHolds.{distinct}
+use Rattle.temporal.proofs.Causes.{acceptable, cause_counts}
+use Rattle.temporal.proofs.RunHolds.{distinct}
 use Rattle.network.specs.Lists.{zeros_at}
 use Rattle.network.specs.Stored.{at}
 use Rattle.ticket.specs.declared.Ticket.{Ticket}
 use Rattle.ticket.specs.Writing.{content}
-use Rattle.ticket.specs.Content.{in_events}
+use Rattle.ticket.proofs.Content.{in_events}
 use Rattle.potentials.specs.Arrays.{window_list, flag_list, firsts_set, length_flag_list, window_at_lem, flag_at, Given, Lie, Within}
 use Rattle.potentials.specs.Nodes.{close_node, close_self, by_nodes, potential_of}
 use Rattle.potentials.specs.Pairs.{Pairs, Limited, pairs_potential, replicate_most}

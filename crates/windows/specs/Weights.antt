@@ -1,7 +1,8 @@
 -- The weights of the events, stored one after the other: those that crate flow asks for.
 use Rattle.std.specs.Prelude.{ℕ, suc, ◌+◌, ◌<◌, ◌≡◌, List, set, replicate}
 use Rattle.std.proofs.Common.{◌∙◌, arith, below_none, below_more, get_or-set_same, get_or-set_other}
-use Rattle.temporal.specs.Ticket.{weight, weight_small}
+use Rattle.temporal.specs.Ticket.{weight}
+use Rattle.temporal.proofs.Ticket.{weight_small}
 use Rattle.network.specs.Stored.{at}
 use Rattle.flow.specs.Solve.{Weights, weights_none, weights_more}
 

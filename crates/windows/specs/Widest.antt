@@ -4,7 +4,7 @@ use Rattle.std.specs.Prelude.{◌≡◌, List, ◌∷◌, length}
 use Rattle.std.proofs.Math.Path.{ap, sym}
 use Rattle.std.proofs.Common.{◌∙◌, subst, ap₂, ⊎_elim, arith}
 use Prim.Native.Nat.{ℕ, suc, ◌+◌, ◌*◌, ◌-◌, ◌≤◌, ◌<◌}
-use Rattle.temporal.specs.Lists.{get_d_past, below_or_not}
+use Rattle.temporal.proofs.Lists.{get_d_past, below_or_not}
 use Rattle.temporal.specs.Ticket as temporal
 use Rattle.temporal.specs.Ticket.{Window, origin, weight, total}
 use Rattle.temporal.specs.Best.{Chosen, Sooner}

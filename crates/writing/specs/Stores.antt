@@ -4,9 +4,9 @@ use Rattle.std.proofs.Common.{sym, ap, ◌∙◌, append_assoc, append-nil, add-
 use Rattle.std.proofs.lemmas.List.Edits.{sets, sets-eq}
 use Rattle.temporal.specs.Ticket.{Rule}
 use Rattle.ticket.specs.Writer.{bytes, each, write_rule, write_ticket}
-use Rattle.ticket.specs.RoundTrip.{length_bytes, length_each, length_rule}
+use Rattle.ticket.proofs.RoundTrip.{length_bytes, length_each, length_rule}
 use Rattle.ticket.specs.Writing.{firsts, over}
-use Rattle.ticket.specs.WritingLaws.{firsts_more, length_firsts}
+use Rattle.ticket.proofs.WritingLaws.{firsts_more, length_firsts}
 
 pub sets_append : (xs ys l : List ℕ) (i : ℕ) → sets l i (xs ++ ys) ≡ sets (sets l i xs) (i + length xs) ys
 sets_append [] ys l i = ap (λ k. sets l k ys) (sym (add-zero i))

@@ -2,12 +2,12 @@
 -- Then what is tested of a window and of a count, and written of a window. Assumes nothing.
 use Rattle.std.specs.Prelude.{ℕ, ◌≤◌, ◌<◌, List, [], ◌++◌, eqb, ◌≡◌}
 use Rattle.writing.specs.Rules.{number_at}
-use Rattle.temporal.specs.Lists.{get_d_tab}
+use Rattle.temporal.proofs.Lists.{get_d_tab}
 use Rattle.ticket.specs.Format.{Entry, flag_counts}
 use Rattle.ticket.specs.Writer.{bytes, each, write_window, window_bytes}
 use Rattle.ticket.specs.declared.Record.{Record}
 use Rattle.std.proofs.Common.{sym, ap, ◌∙◌}
-use Rattle.ticket.specs.Fields.{flag_kept}
+use Rattle.ticket.proofs.Fields.{flag_kept}
 use Rattle.ticket.specs.Writing.{firsts, verdict, flag_in, window_in, entry_in, count_in, state_of, window_cause, test_window, flags_of, count_cause, test_count}
 
 -- The window with its flag at a place of three lists.

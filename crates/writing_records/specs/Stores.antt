@@ -5,9 +5,9 @@ use Rattle.std.proofs.lemmas.List.Edits.{sets}
 use Rattle.temporal.specs.Ticket.{Window}
 use Rattle.ticket.specs.Format.{Entry}
 use Rattle.ticket.specs.Writer.{bytes, each, write_ticket, entries, write_window, write_state}
-use Rattle.ticket.specs.RoundTrip.{length_bytes, length_each, length_ticket, length_window}
+use Rattle.ticket.proofs.RoundTrip.{length_bytes, length_each, length_ticket, length_window}
 use Rattle.ticket.specs.Writing.{firsts, owner_in, rule_in, committed_in, window_in, entry_in, count_in, state_of, content, over}
-use Rattle.ticket.specs.WritingLaws.{length_firsts}
+use Rattle.ticket.proofs.WritingLaws.{length_firsts}
 use Rattle.writing.specs.Stores.{sets_each, sets_then, sets_over}
 use Rattle.writing_records.specs.Parts.{plan_bytes}
 use Rattle.ticket.specs.declared.Record.{Record}

@@ -6,7 +6,7 @@ use lib.Signed.{mag}
 use mir.Syntax.{w32}
 use mir.Val.{SFits, to_z, of_z}
 use mir.ValLaws.{to_z-of_z}
-use Rattle.ticket.specs.Signed.{minus_high}
+use Rattle.ticket.proofs.Signed.{minus_high}
 use Rattle.demands.specs.Cost.{cost_above, cost_below}
 use Rattle.demands.proofs.cost.Goals as goal
 use Rattle.demands.proofs.cost.Goals.{Else-z-ge0}

@@ -2,7 +2,7 @@
 use native.Mathlib.Omega.{arith}
 use Prim.Native.Nat.{◌*◌, ◌-◌, ◌≤◌}
 use mathlib.Core.Path.{ap}
-use Rattle.temporal.specs.Ticket.{weight_small}
+use Rattle.temporal.proofs.Ticket.{weight_small}
 use Rattle.fitness.specs.Total.{part_most}
 use Rattle.fitness.proofs.part.Goals as goal
 use Rattle.fitness.proofs.part.Goals.{After-weight}

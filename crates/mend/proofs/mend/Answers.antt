@@ -1,7 +1,7 @@
 -- `mend::mend` meets its contract: 10 first, then a refused reading answers its number, and what was read is mended.
 use native.Mathlib.Omega.{arith}
-use Rattle.ticket.specs.Content.{read_valid}
-use Rattle.mending.specs.Mending.{mending_short_out, mending_short_list}
+use Rattle.ticket.proofs.Content.{read_valid}
+use Rattle.mending.proofs.Mending.{mending_short_out, mending_short_list}
 use Rattle.mend.specs.Steps.{meets_refused, ticket_misread, ticket_mended}
 use Rattle.mend.proofs.mend.Goals as goal
 

@@ -6,7 +6,7 @@ use lib.Seq.{sets}
 use Rattle.network.specs.Stored.{at}
 use Rattle.ticket.specs.Writer.{bytes, each}
 use Rattle.ticket.specs.Writing.{firsts}
-use Rattle.ticket.specs.WritingLaws.{length_firsts}
+use Rattle.ticket.proofs.WritingLaws.{length_firsts}
 use Rattle.mend.specs.Steps.{numbers_stored, numbers_more}
 use Rattle.mend.proofs.put_numbers.Goals as goal
 

@@ -3,10 +3,10 @@ use Prim.Native.Nat.{◌≤◌}
 use native.Mathlib.Omega.{arith}
 use mir.Syntax.{w32}
 use mir.ValLaws.{to_z-of_z}
-use Rattle.ticket.specs.Content.{in_rules}
+use Rattle.ticket.proofs.Content.{in_rules}
 use Rattle.demands.specs.Rules.{tests_yes, tests_no}
 use Rattle.mirror.specs.Cut.{Possible}
-use Rattle.mirror.specs.Structs.{rule_valid, valid_fits, rules_all, rules_each}
+use Rattle.mirror.proofs.Structs.{rule_valid, valid_fits, rules_all, rules_each}
 use Rattle.mirror.proofs.all_possible.Goals as goal
 use Rattle.mirror.proofs.all_possible.Goals.{Start}
 

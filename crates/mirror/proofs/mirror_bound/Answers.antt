@@ -5,7 +5,7 @@ use lib.IntN.{pos}
 use mir.Syntax.{w32}
 use mir.Val.{to_z, of_z}
 use mir.ValLaws.{to_z_pos, to_z-of_z}
-use Rattle.mirror.specs.Structs.{minus_fits, plus_fits, bound_from_start, bound_between, bound_cut, bound_to_start}
+use Rattle.mirror.proofs.Structs.{minus_fits, plus_fits, bound_from_start, bound_between, bound_cut, bound_to_start}
 use Rattle.mirror.proofs.mirror_bound.Goals as goal
 use Rattle.mirror.proofs.mirror_bound.Goals.{Start}
 

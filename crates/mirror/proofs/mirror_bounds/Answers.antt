@@ -3,8 +3,8 @@ use Prim.Native.Nat.{◌≤◌}
 use native.Mathlib.Omega.{arith}
 use mir.Syntax.{w32}
 use mir.ValLaws.{to_z-of_z}
-use Rattle.ticket.specs.Content.{in_rules}
-use Rattle.mirror.specs.Structs.{replaced_more, rule_valid, valid_fits}
+use Rattle.ticket.proofs.Content.{in_rules}
+use Rattle.mirror.proofs.Structs.{replaced_more, rule_valid, valid_fits}
 use Rattle.mirror.proofs.mirror_bounds.Goals as goal
 use Rattle.mirror.proofs.mirror_bounds.Goals.{Start}
 

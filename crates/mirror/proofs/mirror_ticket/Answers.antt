@@ -1,5 +1,5 @@
 -- `mirror_ticket` meets its contract, by that of `mirror_bounds`.
-use Rattle.mirror.specs.Structs.{mirrored_content}
+use Rattle.mirror.proofs.Structs.{mirrored_content}
 use Rattle.mirror.proofs.mirror_ticket.Goals as goal
 
 pub returns : goal.returns

@@ -3,7 +3,7 @@ use mathlib.Core.Path.{◌≡◌}
 use Prim.Native.Nat.{◌≤◌}
 use native.Mathlib.Omega.{arith}
 use Rattle.network.specs.Stored.{at}
-use Rattle.mirror.specs.Structs.{exchanged_windows, exchanged_within}
+use Rattle.mirror.proofs.Structs.{exchanged_windows, exchanged_within}
 use Rattle.mirror.proofs.mirror_windows.Goals as goal
 use Rattle.mirror.proofs.mirror_windows.Goals.{In-loop-i}
 

@@ -6,9 +6,9 @@ use lib.Signed.{mag}
 use mir.Syntax.{w32}
 use mir.Val.{SFits, to_z, of_z}
 use mir.ValLaws.{to_z-of_z}
-use Rattle.ticket.specs.Signed.{minus_high}
+use Rattle.ticket.proofs.Signed.{minus_high}
 use Rattle.demands.specs.Rules.{tests_yes, tests_no}
-use Rattle.mirror.specs.Structs.{possible_yes, possible_not, possible_to_start}
+use Rattle.mirror.proofs.Structs.{possible_yes, possible_not, possible_to_start}
 use Rattle.mirror.proofs.possible.Goals as goal
 use Rattle.mirror.proofs.possible.Goals.{Else-bound-ge0, Start}
 

@@ -2,7 +2,7 @@
 use native.Mathlib.Omega.{arith}
 use mathlib.Core.Path.{◌∙◌}
 use Rattle.potentials.specs.Pairs.{replicate_most}
-use Rattle.parts.specs.AllRules.{rules_most}
+use Rattle.parts.proofs.AllRules.{rules_most}
 use Rattle.part_network.specs.Lay.{bound_in}
 use Rattle.part_network.specs.Dense.{dense_built}
 use Rattle.part_network.proofs.build.Goals as goal

@@ -1,7 +1,7 @@
 -- `members` meets its contract. The invariant: the device's events among the first i are placed.
 use native.Mathlib.Omega.{arith}
 use Rattle.network.specs.Stored.{at}
-use Rattle.ticket.specs.WritingLaws.{length_firsts}
+use Rattle.ticket.proofs.WritingLaws.{length_firsts}
 use Rattle.part_network.specs.Points.{placed_none, placed_more}
 use Rattle.part_network.proofs.members.Goals as goal
 

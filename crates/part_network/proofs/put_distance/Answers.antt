@@ -2,7 +2,7 @@
 use native.Mathlib.Omega.{arith}
 use mathlib.Core.Path.{sym}
 use Rattle.potentials.specs.Nodes.{close_most}
-use Rattle.parts.specs.AllRules.{between_self, between_other}
+use Rattle.parts.proofs.AllRules.{between_self, between_other}
 use Rattle.part_network.specs.Lay.{bound_in, lays_none, lays_one, lays_same}
 use Rattle.part_network.proofs.put_distance.Goals as goal
 

@@ -3,7 +3,7 @@ use native.Mathlib.Omega.{arith}
 use Prim.Native.Nat.{suc}
 use mathlib.Core.Path.{◌≡◌}
 use Rattle.parts.specs.Part.{joined, rule_between, all_rules}
-use Rattle.parts.specs.AllRules.{rows_length}
+use Rattle.parts.proofs.AllRules.{rows_length}
 use Rattle.part_network.specs.Lay.{bound_in, lays_start, lays_more}
 use Rattle.part_network.proofs.put_distances.Goals as goal
 

@@ -1,7 +1,7 @@
 -- `put_row` meets its contract. The invariant: the rules to the points below j are stored.
 use native.Mathlib.Omega.{arith}
 use Rattle.parts.specs.Part.{rule_between}
-use Rattle.parts.specs.AllRules.{row_few}
+use Rattle.parts.proofs.AllRules.{row_few}
 use Rattle.part_network.specs.Lay.{bound_in, lays_start, lays_more}
 use Rattle.part_network.proofs.put_row.Goals as goal
 

@@ -4,8 +4,8 @@ use native.Mathlib.Omega.{arith}
 use lib.ListN.{drop, length-drop}
 use Rattle.ticket.specs.Parser.{number}
 use Rattle.reading.specs.Parts.{all_ruled}
-use Rattle.ticket.specs.Laws.{little_short}
-use Rattle.ticket.specs.Stages.{no_rules_lem, many_rules, some_rules}
+use Rattle.ticket.proofs.Laws.{little_short}
+use Rattle.ticket.proofs.Stages.{no_rules_lem, many_rules, some_rules}
 use Rattle.reading.proofs.all_rules_at.Goals as goal
 
 pub returns-then-s-at-lt2 : goal.returns-then-s-at-lt2

@@ -5,8 +5,8 @@ use native.Mathlib.Omega.{arith}
 use lib.ListN.{drop, length-drop}
 use Rattle.ticket.specs.Parser.{number}
 use Rattle.reading.specs.Parts.{fronted}
-use Rattle.ticket.specs.Laws.{little_short}
-use Rattle.ticket.specs.Stages.{no_horizon, bad_horizon, no_events, bad_events, front_read}
+use Rattle.ticket.proofs.Laws.{little_short}
+use Rattle.ticket.proofs.Stages.{no_horizon, bad_horizon, no_events, bad_events, front_read}
 use Rattle.reading.proofs.front_at.Goals as goal
 
 pub returns-then-s-at : goal.returns-then-s-at

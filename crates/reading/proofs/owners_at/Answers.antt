@@ -9,8 +9,9 @@ use Rattle.ticket.specs.Parser.{number, many}
 use Rattle.ticket.specs.Format.{read_owner}
 use Rattle.ticket.specs.Stored.{pad}
 use Rattle.reading.specs.Parts.{owned}
-use Rattle.ticket.specs.Fields.{owner_short, owner_bad, owner_got}
-use Rattle.ticket.specs.Laws.{after, after_none, many_more, many_stop, many_done, pad_set}
+use Rattle.ticket.proofs.Fields.{owner_short, owner_bad, owner_got}
+use Rattle.ticket.specs.Laws.{after}
+use Rattle.ticket.proofs.Laws.{after_none, many_more, many_stop, many_done, pad_set}
 use Rattle.reading.proofs.owners_at.Goals as goal
 
 pub loop-i-init : goal.loop-i-init

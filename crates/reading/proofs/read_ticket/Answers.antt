@@ -7,7 +7,7 @@ use Rattle.ticket.specs.Format.{size, read_ticket}
 use Rattle.ticket.specs.Stored.{answer}
 use Rattle.temporal.specs.Run.{Valid}
 use Rattle.ticket.specs.Writer.{write_ticket}
-use Rattle.ticket.specs.RoundTrip.{ticket_back, length_ticket}
+use Rattle.ticket.proofs.RoundTrip.{ticket_back, length_ticket}
 use Rattle.reading.specs.Whole.{whole_trailing, whole_done}
 use borrow.Author.Rules.{rules}
 use Rattle.reading.proofs.read_ticket.Goals as goal

@@ -11,8 +11,8 @@ use Rattle.temporal.specs.Ticket.{Rule}
 use Rattle.ticket.specs.Parser.{number}
 use Rattle.ticket.specs.Format.{rule_test}
 use Rattle.reading.specs.Parts.{no_rule, ruled}
-use Rattle.ticket.specs.Fields.{rule_short, rule_refused, rule_got, rule_test_fixed}
-use Rattle.ticket.specs.WritingLaws.{verdict_refused, verdict_passed}
+use Rattle.ticket.proofs.Fields.{rule_short, rule_refused, rule_got, rule_test_fixed}
+use Rattle.ticket.proofs.WritingLaws.{verdict_refused, verdict_passed}
 use Rattle.reading.proofs.rule_at.Goals as goal
 
 pub returns-then-s-at-lt6 : goal.returns-then-s-at-lt6

@@ -10,11 +10,12 @@ use Rattle.ticket.specs.Format.{read_rule}
 use Rattle.ticket.specs.Stored.{pad}
 use Rattle.reading.specs.Parts.{rules_of, no_rules, all_ruled}
 use Rattle.reading.specs.Answers.{rule_of, rule_refused, rule_done}
-use Rattle.ticket.specs.Fields.{rule_fixed}
+use Rattle.ticket.proofs.Fields.{rule_fixed}
 use mir.Syntax.{w32}
 use mir.ValLaws.{to_z-of_z}
 use lib.Seq.{drop-drop}
-use Rattle.ticket.specs.Laws.{after, after_none, many_more, many_stop, many_done, pad_map}
+use Rattle.ticket.specs.Laws.{after}
+use Rattle.ticket.proofs.Laws.{after_none, many_more, many_stop, many_done, pad_map}
 use Rattle.reading.proofs.rules_at.Goals as goal
 
 pub loop-i-init : goal.loop-i-init

@@ -11,7 +11,7 @@ use Rattle.ticket.specs.Stored.{pad, no_ticket, answer}
 use Rattle.reading.specs.Parts.{rules_of}
 use Rattle.reading.specs.Answers.{front_refused, owners_refused, rules_refused, assembled}
 use Rattle.reading.specs.Rest.{front_got, owners_got, rules_got}
-use Rattle.ticket.specs.Stages.{bad_front, bad_owners, bad_rules, whole}
+use Rattle.ticket.proofs.Stages.{bad_front, bad_owners, bad_rules, whole}
 use Rattle.reading.proofs.ticket_at.Goals as goal
 use Rattle.reading.proofs.ticket_at.Goals.{Else-j-ne0, Else-k-ne0, Else-l-ne0}
 

@@ -1,5 +1,5 @@
 -- `reading::u16_at` meets its contract. Two bytes, one after the other. Assumes nothing.
-use Rattle.ticket.specs.Laws.{little2_at}
+use Rattle.ticket.proofs.Laws.{little2_at}
 use native.Mathlib.Omega.{arith}
 use Rattle.reading.proofs.u16_at.Goals as goal
 

@@ -1,6 +1,6 @@
 -- `reading::u32_at` meets its contract. Four bytes, one after the other. Assumes nothing.
 use native.Mathlib.Omega.{arith}
-use Rattle.ticket.specs.Laws.{little4_at}
+use Rattle.ticket.proofs.Laws.{little4_at}
 use Rattle.reading.proofs.u32_at.Goals as goal
 
 pub returns : goal.returns

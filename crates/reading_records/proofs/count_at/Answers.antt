@@ -8,11 +8,12 @@ use lib.Seq.{get_or-drop}
 use Rattle.ticket.specs.Parser.{layout, number, expect}
 use Rattle.ticket.specs.Format.{sound_count}
 use Rattle.reading_records.specs.Parts.{no_count, counted}
-use Rattle.ticket.specs.Laws.{little_short}
-use Rattle.ticket.specs.Width.{expect_fixed}
-use Rattle.ticket.specs.RoundTrip.{Bytes, little_back}
-use Rattle.ticket.specs.Stages.{no_count_lem, bad_count, good_count}
-use Rattle.ticket.specs.WritingLaws.{verdict_refused, verdict_passed}
+use Rattle.ticket.proofs.Laws.{little_short}
+use Rattle.ticket.proofs.Width.{expect_fixed}
+use Rattle.ticket.specs.RoundTrip.{Bytes}
+use Rattle.ticket.proofs.RoundTrip.{little_back}
+use Rattle.ticket.proofs.Stages.{no_count_lem, bad_count, good_count}
+use Rattle.ticket.proofs.WritingLaws.{verdict_refused, verdict_passed}
 use borrow.Author.Rules.{rules}
 use Rattle.reading_records.proofs.count_at.Goals as goal
 

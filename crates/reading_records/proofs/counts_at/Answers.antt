@@ -9,9 +9,10 @@ use Rattle.ticket.specs.Format.{read_count, each_count}
 use Rattle.ticket.specs.Stored.{pad}
 use Rattle.reading_records.specs.Parts.{counts_of, all_counted}
 use Rattle.reading_records.specs.Answers.{count_refused, count_done}
-use Rattle.ticket.specs.Fields.{count_fixed}
-use Rattle.ticket.specs.Laws.{after, after_none, pad_set}
-use Rattle.ticket.specs.Stages.{counts_more, counts_stop, counts_read}
+use Rattle.ticket.proofs.Fields.{count_fixed}
+use Rattle.ticket.specs.Laws.{after}
+use Rattle.ticket.proofs.Laws.{after_none, pad_set}
+use Rattle.ticket.proofs.Stages.{counts_more, counts_stop, counts_read}
 use Rattle.reading_records.proofs.counts_at.Goals as goal
 
 pub loop-o-init : goal.loop-o-init

@@ -8,8 +8,8 @@ use Rattle.temporal.specs.Ticket.{Ticket}
 use Rattle.ticket.specs.Parser.{got}
 use Rattle.ticket.specs.Format.{size, Entry, flags_in, read_ticket, read_windows, read_counts, flag_counts}
 use Rattle.ticket.specs.Stored.{stored, answer, no_record, planned}
-use Rattle.ticket.specs.Laws.{was_refused}
-use Rattle.ticket.specs.Stages.{bad_ticket, bad_windows, bad_counts, whole_state}
+use Rattle.ticket.proofs.Laws.{was_refused}
+use Rattle.ticket.proofs.Stages.{bad_ticket, bad_windows, bad_counts, whole_state}
 use Rattle.reading_records.specs.Parts.{windows_of, window_section, count_section}
 use Rattle.reading_records.specs.Answers.{windows_refused, counts_refused, counts_done}
 use Rattle.reading_records.specs.Rest.{windows_got}

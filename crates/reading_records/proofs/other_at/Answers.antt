@@ -3,9 +3,9 @@ use mathlib.Core.Path.{sym, ap}
 use native.Mathlib.Omega.{arith}
 use lib.ListN.{drop, length-drop}
 use Rattle.ticket.specs.Parser.{number}
-use Rattle.ticket.specs.Laws.{little_short}
+use Rattle.ticket.proofs.Laws.{little_short}
 use Rattle.ticket.specs.Writing.{verdict}
-use Rattle.ticket.specs.Stages.{no_number, other_number, same_number}
+use Rattle.ticket.proofs.Stages.{no_number, other_number, same_number}
 use Rattle.reading_records.proofs.other_at.Goals as goal
 
 pub returns-then-s-at-lt2 : goal.returns-then-s-at-lt2

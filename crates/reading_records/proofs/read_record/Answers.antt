@@ -7,7 +7,7 @@ use Rattle.temporal.specs.Run.{Readable}
 use Rattle.ticket.specs.Format.{state_size, read_state}
 use Rattle.ticket.specs.Stored.{planned}
 use Rattle.ticket.specs.Writer.{write_state}
-use Rattle.ticket.specs.RoundTrip.{state_back, length_readable}
+use Rattle.ticket.proofs.RoundTrip.{state_back, length_readable}
 use Rattle.reading.specs.Whole.{whole_trailing, whole_done}
 use borrow.Author.Rules.{rules}
 use Rattle.reading_records.proofs.read_record.Goals as goal

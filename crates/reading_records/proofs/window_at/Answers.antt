@@ -8,9 +8,9 @@ use Rattle.ticket.specs.Parser.{layout, number, expect}
 use Rattle.ticket.specs.Format.{sound}
 use Rattle.ticket.specs.Writer.{flag_byte}
 use Rattle.reading_records.specs.Parts.{no_window, windowed}
-use Rattle.ticket.specs.Width.{expect_fixed}
-use Rattle.ticket.specs.Fields.{expect_true, window_short, window_refused, window_got, sound_all, flag_kept}
-use Rattle.ticket.specs.WritingLaws.{verdict_refused, verdict_passed}
+use Rattle.ticket.proofs.Width.{expect_fixed}
+use Rattle.ticket.proofs.Fields.{expect_true, window_short, window_refused, window_got, sound_all, flag_kept}
+use Rattle.ticket.proofs.WritingLaws.{verdict_refused, verdict_passed}
 use Rattle.reading_records.proofs.window_at.Goals as goal
 
 pub returns-then-s-at-lt9 : goal.returns-then-s-at-lt9

@@ -5,8 +5,8 @@ use mathlib.Core.List.{[]}
 use lib.ListN.{length, drop}
 use Rattle.ticket.specs.Parser.{got}
 use Rattle.ticket.specs.Format.{read_same}
-use Rattle.ticket.specs.WritingLaws.{verdict_refused}
-use Rattle.ticket.specs.Stages.{other_events, same_events}
+use Rattle.ticket.proofs.WritingLaws.{verdict_refused}
+use Rattle.ticket.proofs.Stages.{other_events, same_events}
 use Rattle.reading_records.specs.Parts.{windows_of, all_windowed}
 use Rattle.reading_records.specs.Rest.{same_got}
 use Rattle.reading_records.proofs.window_section.Goals as goal

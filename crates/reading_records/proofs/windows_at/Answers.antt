@@ -11,8 +11,9 @@ use Rattle.ticket.specs.Writer.{flag_byte}
 use Rattle.ticket.specs.Stored.{pad}
 use Rattle.reading_records.specs.Parts.{windows_of, all_windowed}
 use Rattle.reading_records.specs.Answers.{window_refused, window_done}
-use Rattle.ticket.specs.Fields.{window_fixed}
-use Rattle.ticket.specs.Laws.{after, after_none, many_more, many_stop, many_done, pad_map}
+use Rattle.ticket.proofs.Fields.{window_fixed}
+use Rattle.ticket.specs.Laws.{after}
+use Rattle.ticket.proofs.Laws.{after_none, many_more, many_stop, many_done, pad_map}
 use Rattle.reading_records.specs.declared.ReadWindow.{ReadWindow}
 use Rattle.reading_records.proofs.windows_at.Goals as goal
 

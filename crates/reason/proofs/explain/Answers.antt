@@ -4,9 +4,9 @@ use mathlib.Core.Bool.{true}
 use native.Mathlib.Omega.{arith}
 use Rattle.temporal.specs.Ticket.{events}
 use Rattle.ticket.specs.Writing.{content}
-use Rattle.ticket.specs.Content.{in_events}
+use Rattle.ticket.proofs.Content.{in_events}
 use Rattle.names.specs.Names.{well_formed}
-use Rattle.reasons.specs.Reasoning.{unlisted_labels, unlisted_roster}
+use Rattle.reasons.proofs.Reasoning.{unlisted_labels, unlisted_roster}
 use Rattle.reason.specs.Steps.{meets_refused, found_most, found_long, found_none, found_numbers, found_fits, found_printed}
 use Rattle.reason.proofs.explain.Goals as goal
 use Rattle.reason.proofs.explain.Goals.{Else-not-well_formed-2}

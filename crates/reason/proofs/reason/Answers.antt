@@ -1,7 +1,7 @@
 -- `reason::reason` meets its contract: 10 first, then a refused reading answers its number, and what was read is explained. Assumes nothing.
 use native.Mathlib.Omega.{arith}
-use Rattle.ticket.specs.Content.{read_valid}
-use Rattle.reasons.specs.Reasoning.{reasoning_short}
+use Rattle.ticket.proofs.Content.{read_valid}
+use Rattle.reasons.proofs.Reasoning.{reasoning_short}
 use Rattle.reason.specs.Steps.{meets_refused, ticket_misread, ticket_meets}
 use Rattle.reason.proofs.reason.Goals as goal
 

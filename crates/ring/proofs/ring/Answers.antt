@@ -1,8 +1,8 @@
 -- `ring` meets its contract, by those of its parts.
 use native.Mathlib.Omega.{arith}
 use mathlib.Core.Path.{refl}
-use Rattle.ticket.specs.Content.{in_events, limits}
-use Rattle.paths.specs.Structs.{in_size}
+use Rattle.ticket.proofs.Content.{in_events, limits}
+use Rattle.paths.proofs.Structs.{in_size}
 use Rattle.ring.specs.Places.{filled_none}
 use Rattle.ring.proofs.ring.Goals as goal
 

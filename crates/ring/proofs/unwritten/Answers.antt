@@ -1,7 +1,7 @@
 -- `unwritten` meets its contract. The invariant: the rules of the first i events are stored.
 use native.Mathlib.Omega.{arith}
 use Prim.Native.Nat.{◌<◌}
-use Rattle.ticket.specs.Content.{limits}
+use Rattle.ticket.proofs.Content.{limits}
 use Rattle.ring.specs.Places.{filled_back, filled_out}
 use Rattle.ring.proofs.unwritten.Goals as goal
 

@@ -1,7 +1,7 @@
 -- `written` meets its contract. The invariant: the first j rules are stored.
 use native.Mathlib.Omega.{arith}
 use Prim.Native.Nat.{◌<◌}
-use Rattle.ticket.specs.Content.{limits}
+use Rattle.ticket.proofs.Content.{limits}
 use Rattle.ring.specs.Places.{filled_written, written_bound, written_signed}
 use Rattle.ring.proofs.written.Goals as goal
 

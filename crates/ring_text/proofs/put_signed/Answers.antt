@@ -5,7 +5,7 @@ use lib.Signed.{mag}
 use mir.Syntax.{w32}
 use mir.Val.{SFits, to_z, of_z}
 use mir.ValLaws.{to_z-of_z}
-use Rattle.ticket.specs.Signed.{minus_high}
+use Rattle.ticket.proofs.Signed.{minus_high}
 use Rattle.text.specs.Stores.{puts_then}
 use Rattle.ring_text.specs.Lines.{signed_low, signed_high}
 use Rattle.ring_text.proofs.put_signed.Goals as goal

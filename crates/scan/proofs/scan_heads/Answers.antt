@@ -12,7 +12,7 @@ step : (c : In-loop-x) → let a = c.args in Follows a.net.now a.m (2 * a.nodes 
 step c = follows c.requires.scans c.requires.index c.loop-x.invariant c.loop-x-test.true
 
 pub visit_head-r-requires : goal.visit_head-r-requires
-visit_head-r-requires c = let whole = (head_asks c.requires.scans c.requires.index c.loop-x.invariant c.loop-x-test.true refl) in record { step = whole.0; t_bound = whole.1; }
+visit_head-r-requires c = let whole = (head_asks c.requires.scans c.requires.index c.loop-x.invariant c.loop-x-test.true refl) in record { step = whole.0; t_bound = whole.1 }
 
 pub loop-x-preserved : goal.loop-x-preserved
 loop-x-preserved c = head_more c.requires.scans c.requires.index c.loop-x.invariant c.loop-x-test.true refl c.visit_head-r.ensures

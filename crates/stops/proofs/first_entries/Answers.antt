@@ -1,8 +1,8 @@
 -- `stops::first_entries` meets its contract: the arrays hold the ticket's rules. Assumes nothing.
 use mathlib.Core.Path.{ap, ◌∙◌}
-use Rattle.ticket.specs.Content.{limits}
+use Rattle.ticket.proofs.Content.{limits}
 use Rattle.closure.specs.Start.{start}
-use Rattle.stops.specs.Steps.{arrays_hold, arrays_valid}
+use Rattle.stops.proofs.Steps.{arrays_hold, arrays_valid}
 use Rattle.stops.proofs.first_entries.Goals as goal
 
 pub ruled-requires : goal.ruled-requires

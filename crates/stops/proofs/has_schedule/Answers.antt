@@ -1,7 +1,7 @@
 -- `stops::has_schedule` meets its contract: all stops tell whether there is a schedule. Assumes nothing.
-use Rattle.ticket.specs.Content.{limits}
+use Rattle.ticket.proofs.Content.{limits}
 use Rattle.closure.specs.Matrix.{entry}
-use Rattle.stops.specs.Steps.{first_floors, first_top, closed_tells}
+use Rattle.stops.proofs.Steps.{first_floors, first_top, closed_tells}
 use Rattle.stops.proofs.has_schedule.Goals as goal
 
 pub closure-requires : goal.closure-requires

@@ -1,9 +1,9 @@
 -- `stops::table_after` meets its contract: 10 first, then a refused reading answers its number, and what was read is worked. Assumes nothing.
 use mathlib.Core.Path.{sym, ◌∙◌}
 use native.Mathlib.Omega.{arith}
-use Rattle.ticket.specs.Content.{read_valid}
-use Rattle.stops.specs.After.{after_short}
-use Rattle.stops.specs.Steps.{ticket_misread, ticket_worked}
+use Rattle.ticket.proofs.Content.{read_valid}
+use Rattle.stops.proofs.After.{after_short}
+use Rattle.stops.proofs.Steps.{ticket_misread, ticket_worked}
 use Rattle.stops.proofs.table_after.Goals as goal
 
 pub returns-then-out-lt-OUTPUT : goal.returns-then-out-lt-OUTPUT

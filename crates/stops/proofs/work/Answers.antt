@@ -5,11 +5,11 @@ use native.Mathlib.Omega.{arith}
 use lib.Dec.{T}
 use Rattle.temporal.specs.Distance.{consistent}
 use Rattle.ticket.specs.Writing.{content}
-use Rattle.ticket.specs.Content.{limits}
+use Rattle.ticket.proofs.Content.{limits}
 use Rattle.closure.specs.Matrix.{entry, Everywhere}
 use Rattle.closure.specs.Stops.{after}
-use Rattle.stops.specs.After.{worked_none}
-use Rattle.stops.specs.Steps.{first_top, stops_kept, stops_small, stops_written}
+use Rattle.stops.proofs.After.{worked_none}
+use Rattle.stops.proofs.Steps.{first_top, stops_kept, stops_small, stops_written}
 use Rattle.stops.proofs.work.Goals as goal
 use Rattle.stops.proofs.work.Goals.{After-first_entries-w, After-take_stops, Else-not-has_schedule}
 

@@ -10,7 +10,7 @@ use Rattle.temporal.specs.Ticket.{Rule, events}
 use Rattle.temporal.specs.Distance.{distance}
 use Rattle.temporal.specs.Run.{Valid}
 use Rattle.temporal.specs.Table.{ticket_of, rules_cause}
-use Rattle.temporal.specs.TableCauses.{ticket_events, cause_room, cause_horizon, cause_events, cause_count, cause_rules, cause_last, rules_valid, ticket_valid, refuses, accepts}
+use Rattle.temporal.proofs.TableCauses.{ticket_events, cause_room, cause_horizon, cause_events, cause_count, cause_rules, cause_last, rules_valid, ticket_valid, refuses, accepts}
 use Rattle.closure.specs.Matrix.{entry, Everywhere}
 use Rattle.closure.specs.Start.{start}
 use Rattle.table.specs.Lent.{rules_of}

@@ -3,7 +3,7 @@ use mathlib.Core.Path.{sym}
 use borrow.Author.Tests.{le-ltb, ne_eqb}
 use mir.Facts.{to_z-of_z}
 use Rattle.temporal.specs.Table.{rule_cause}
-use Rattle.temporal.specs.TableCauses.{rule_from, rule_to, rule_same}
+use Rattle.temporal.proofs.TableCauses.{rule_from, rule_to, rule_same}
 use Rattle.table.proofs.rule_refusal.Goals as goal
 
 pub returns-then-n-i : goal.returns-then-n-i

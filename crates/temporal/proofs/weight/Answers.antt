@@ -2,7 +2,7 @@
 use mathlib.Core.Path.{refl, sym}
 use native.Mathlib.Omega.{arith}
 use borrow.Author.Rules.{rules}
-use Rattle.temporal.specs.Lists.{get_d_past}
+use Rattle.temporal.proofs.Lists.{get_d_past}
 use Rattle.temporal.specs.Ticket.{weights, weight}
 use Rattle.temporal.proofs.weight.Goals as goal
 

@@ -8,7 +8,7 @@ use lib.ListN.{get_or}
 use Rattle.temporal.specs.Lists.{tab}
 use Rattle.temporal.specs.Plan.{raise}
 use Rattle.ticket.specs.Writing.{firsts}
-use Rattle.ticket.specs.WritingLaws.{length_firsts, counts_few, counts_next}
+use Rattle.ticket.proofs.WritingLaws.{length_firsts, counts_few, counts_next}
 use Rattle.ticket.proofs.flag_counts.Goals as goal
 
 pub loop-i-init : goal.loop-i-init

@@ -5,8 +5,8 @@ use mir.Syntax.{w32}
 use mir.Val.{to_z}
 use Rattle.temporal.specs.Ticket.{Rule}
 use Rattle.ticket.specs.Parser.{number}
-use Rattle.ticket.specs.Signed.{within_out}
-use Rattle.ticket.specs.Fields.{apart_from, apart_to, apart_same, apart_yes, points_fail, bound_fails}
+use Rattle.ticket.proofs.Signed.{within_out}
+use Rattle.ticket.proofs.Fields.{apart_from, apart_to, apart_same, apart_yes, points_fail, bound_fails}
 use Rattle.ticket.specs.Writing.{verdict}
 use Rattle.ticket.proofs.rule_cause.Goals as goal
 

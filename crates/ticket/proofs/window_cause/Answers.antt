@@ -4,7 +4,7 @@ use mathlib.Core.List.{[]}
 use mathlib.Core.Bool.{Bool}
 use native.Mathlib.Omega.{arith}
 use Rattle.ticket.specs.Parser.{layout, number, expect}
-use Rattle.ticket.specs.Fields.{sound_flag, sound_order, sound_horizon}
+use Rattle.ticket.proofs.Fields.{sound_flag, sound_order, sound_horizon}
 use Rattle.ticket.specs.Writing.{verdict}
 use Rattle.ticket.proofs.window_cause.Goals as goal
 

@@ -6,10 +6,10 @@ use lib.Seq.{sets}
 use Rattle.temporal.specs.Ticket.{events}
 use Rattle.ticket.specs.Writer.{each}
 use Rattle.ticket.specs.Writing.{state_of}
-use Rattle.ticket.specs.Content.{in_events}
+use Rattle.ticket.proofs.Content.{in_events}
 use Rattle.causes.specs.Structs.{canonical_few}
 use Rattle.viewing.specs.View.{seen_to, write_seen}
-use Rattle.viewing.specs.Laws.{to_most}
+use Rattle.viewing.proofs.Laws.{to_most}
 use Rattle.view.specs.Stored.{count_more, bytes_more}
 use Rattle.view.proofs.put_events.Goals as goal
 

@@ -1,7 +1,7 @@
 -- `view::view` meets its contract: 10 first, then 19, then a refused reading answers its number, and of what was read the view is written.
 use native.Mathlib.Omega.{arith}
 use Rattle.causes.specs.Structs.{read_canonical}
-use Rattle.viewing.specs.View.{viewing_short, viewing_unknown}
+use Rattle.viewing.proofs.View.{viewing_short, viewing_unknown}
 use Rattle.view.specs.Steps.{meets_refused, record_misread, record_viewed}
 use Rattle.view.proofs.view.Goals as goal
 

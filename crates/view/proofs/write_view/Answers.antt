@@ -7,8 +7,8 @@ use Rattle.ticket.specs.Writer.{bytes}
 use Rattle.ticket.specs.Writing.{state_of}
 use Rattle.potentials.specs.Arrays.{window_list}
 use Rattle.causes.specs.Structs.{lies_asked}
-use Rattle.viewing.specs.View.{viewed_unfit}
-use Rattle.viewing.specs.Laws.{length_view, view_fits}
+use Rattle.viewing.proofs.View.{viewed_unfit}
+use Rattle.viewing.proofs.Laws.{length_view, view_fits}
 use Rattle.view.specs.Steps.{meets_refused, view_written}
 use Rattle.view.proofs.write_view.Goals as goal
 use Rattle.view.proofs.write_view.Goals.{After-put_events-k}

@@ -4,7 +4,7 @@ use mathlib.Core.Path.{ap, ◌∙◌}
 use lib.Seq.{sets}
 use Rattle.ticket.specs.Writer.{bytes, each, write_rule}
 use Rattle.ticket.specs.Writing.{firsts, owner_in, rule_in}
-use Rattle.ticket.specs.WritingLaws.{length_firsts}
+use Rattle.ticket.proofs.WritingLaws.{length_firsts}
 use Rattle.writing.specs.Stores.{sets_ticket}
 use Rattle.writing.proofs.put_ticket.Goals as goal
 

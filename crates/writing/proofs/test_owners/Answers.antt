@@ -5,7 +5,7 @@ use mathlib.Core.List.{[]}
 use native.Mathlib.Omega.{arith}
 use Rattle.ticket.specs.Parser.{number}
 use Rattle.ticket.specs.Writing.{tests, test_owner, verdict}
-use Rattle.ticket.specs.WritingLaws.{owner_fails, owner_passes, tests_more, tests_stop}
+use Rattle.ticket.proofs.WritingLaws.{owner_fails, owner_passes, tests_more, tests_stop}
 use Rattle.writing.proofs.test_owners.Goals as goal
 
 pub loop-i-init : goal.loop-i-init

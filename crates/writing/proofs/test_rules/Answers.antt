@@ -4,10 +4,10 @@ use borrow.Author.Rules.{rules}
 use Prim.Native.Nat.{◌+◌}
 use mathlib.Core.Path.{◌≡◌, refl, sym, ap, ◌∙◌}
 use mathlib.Core.List.{[]}
-use Rattle.ticket.specs.Fields.{rule_test_fixed}
+use Rattle.ticket.proofs.Fields.{rule_test_fixed}
 use Rattle.ticket.specs.Writing.{rule_in, tests, test_rule, verdict}
 use Rattle.writing.specs.Rules.{rule_tested}
-use Rattle.ticket.specs.WritingLaws.{verdict_refused, verdict_passed, tests_more, tests_stop}
+use Rattle.ticket.proofs.WritingLaws.{verdict_refused, verdict_passed, tests_more, tests_stop}
 use Rattle.writing.proofs.test_rules.Goals as goal
 use Rattle.writing.proofs.test_rules.Goals.{After-rule_cause-k}
 

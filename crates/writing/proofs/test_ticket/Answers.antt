@@ -4,8 +4,8 @@ use mathlib.Core.List.{[]}
 use native.Mathlib.Omega.{arith}
 use Rattle.ticket.specs.Parser.{number}
 use Rattle.ticket.specs.Writing.{tests, test_owner, verdict}
-use Rattle.ticket.specs.WritingLaws.{verdict_refused, verdict_passed, owner_fixed, tests_fixed}
-use Rattle.ticket.specs.WriteStages.{high_horizon, many_events, owners_fail, many_rules, last_tests}
+use Rattle.ticket.proofs.WritingLaws.{verdict_refused, verdict_passed, owner_fixed, tests_fixed}
+use Rattle.ticket.proofs.WriteStages.{high_horizon, many_events, owners_fail, many_rules, last_tests}
 use Rattle.writing.proofs.test_ticket.Goals as goal
 
 pub returns-then-t-gt-HORIZON : goal.returns-then-t-gt-HORIZON

@@ -6,14 +6,14 @@ use native.Mathlib.Omega.{arith}
 use lib.ListN.{length}
 use Rattle.ticket.specs.Parser.{got, number}
 use Rattle.ticket.specs.Writer.{write_ticket}
-use Rattle.ticket.specs.RoundTrip.{length_ticket}
+use Rattle.ticket.proofs.RoundTrip.{length_ticket}
 use Rattle.ticket.specs.Writing.{owner_in, rule_in, content, test_ticket, writing, told, left}
 use Rattle.temporal.specs.Run.{Valid}
-use Rattle.ticket.specs.Sizes.{ticket_bytes}
-use Rattle.ticket.specs.WritingLaws.{refusal, verdict_refused, verdict_passed, ticket_fixed, length_firsts}
+use Rattle.ticket.proofs.Sizes.{ticket_bytes}
+use Rattle.ticket.proofs.WritingLaws.{refusal, verdict_refused, verdict_passed, ticket_fixed, length_firsts}
 use Rattle.writing.specs.Stores.{sets_over}
-use Rattle.ticket.specs.WriteStages.{no_room, test_fails, test_passes}
-use Rattle.ticket.specs.Agree.{tested_valid}
+use Rattle.ticket.proofs.WriteStages.{no_room, test_fails, test_passes}
+use Rattle.ticket.proofs.Agree.{tested_valid}
 use Rattle.writing.proofs.write_ticket.Goals as goal
 use Rattle.writing.proofs.write_ticket.Goals.{Else-k-ne0}
 

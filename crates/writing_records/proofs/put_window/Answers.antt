@@ -5,7 +5,7 @@ use native.Mathlib.Omega.{arith}
 use lib.ListN.{set}
 use lib.Seq.{sets}
 use Rattle.ticket.specs.Writer.{bytes}
-use Rattle.ticket.specs.RoundTrip.{length_bytes}
+use Rattle.ticket.proofs.RoundTrip.{length_bytes}
 use Rattle.writing.specs.Stores.{sets_then}
 use Rattle.writing_records.proofs.put_window.Goals as goal
 

@@ -5,7 +5,7 @@ use mathlib.Core.List.{[]}
 use native.Mathlib.Omega.{arith}
 use Rattle.ticket.specs.Writing.{tests, verdict, test_count}
 use Rattle.writing_records.specs.Parts.{count_tested}
-use Rattle.ticket.specs.WritingLaws.{verdict_refused, verdict_passed, tests_more, tests_stop, count_test_fixed}
+use Rattle.ticket.proofs.WritingLaws.{verdict_refused, verdict_passed, tests_more, tests_stop, count_test_fixed}
 use Rattle.writing_records.proofs.test_counts.Goals as goal
 use Rattle.writing_records.proofs.test_counts.Goals.{After-count_cause-k}
 

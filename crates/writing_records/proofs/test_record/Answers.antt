@@ -4,9 +4,9 @@ use mathlib.Core.Path.{◌≡◌, sym, ap, ◌∙◌}
 use mathlib.Core.List.{[]}
 use Rattle.ticket.specs.Parser.{got}
 use Rattle.ticket.specs.Writing.{tests, test_ticket, test_window, verdict}
-use Rattle.ticket.specs.WritingLaws.{verdict_refused, verdict_passed, ticket_fixed, tests_fixed, window_test_fixed}
-use Rattle.ticket.specs.WriteStages.{ticket_fails, windows_fail, last_counts}
-use Rattle.ticket.specs.Agree.{tested_valid}
+use Rattle.ticket.proofs.WritingLaws.{verdict_refused, verdict_passed, ticket_fixed, tests_fixed, window_test_fixed}
+use Rattle.ticket.proofs.WriteStages.{ticket_fails, windows_fail, last_counts}
+use Rattle.ticket.proofs.Agree.{tested_valid}
 use Rattle.writing_records.proofs.test_record.Goals as goal
 use Rattle.writing_records.proofs.test_record.Goals.{Else-k-ne0, Else-l-ne0}
 

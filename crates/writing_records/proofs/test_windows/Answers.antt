@@ -5,7 +5,7 @@ use mathlib.Core.Path.{◌≡◌, refl, sym, ap, ◌∙◌}
 use mathlib.Core.List.{[]}
 use Rattle.ticket.specs.Writing.{tests, verdict, test_window}
 use Rattle.writing_records.specs.Parts.{window_tested}
-use Rattle.ticket.specs.WritingLaws.{verdict_refused, verdict_passed, tests_more, tests_stop, window_test_fixed}
+use Rattle.ticket.proofs.WritingLaws.{verdict_refused, verdict_passed, tests_more, tests_stop, window_test_fixed}
 use Rattle.writing_records.proofs.test_windows.Goals as goal
 use Rattle.writing_records.proofs.test_windows.Goals.{After-window_cause-k}
 

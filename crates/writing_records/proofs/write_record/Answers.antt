@@ -4,9 +4,9 @@ use mathlib.Core.List.{[]}
 use native.Mathlib.Omega.{arith}
 use Rattle.ticket.specs.Parser.{got, number}
 use Rattle.ticket.specs.Writing.{test_record, writing_record, told, left}
-use Rattle.ticket.specs.WritingLaws.{refusal, verdict_refused, verdict_passed, record_fixed}
-use Rattle.ticket.specs.WriteStages.{no_record_room, record_fails, record_written_lem}
-use Rattle.ticket.specs.Agree.{tested_readable}
+use Rattle.ticket.proofs.WritingLaws.{refusal, verdict_refused, verdict_passed, record_fixed}
+use Rattle.ticket.proofs.WriteStages.{no_record_room, record_fails, record_written_lem}
+use Rattle.ticket.proofs.Agree.{tested_readable}
 use Rattle.writing_records.proofs.write_record.Goals as goal
 use Rattle.writing_records.proofs.write_record.Goals.{Else-k-ne0}
 

@@ -1,0 +1,22 @@
+-- The theorems of crate temporal, and the lemmas under them; specs/Lib says which answers what.
+pub mod Lists
+pub mod Bound
+pub mod Ticket
+pub mod Ends
+pub mod Lattice
+pub mod Best
+pub mod Latest
+pub mod Distance
+pub mod DistanceLaws
+pub mod Times
+pub mod FitSets
+pub mod Answers
+pub mod Causes
+pub mod RunHolds
+pub mod LatestRun
+pub mod Weights
+pub mod TableRows
+pub mod TableCauses
+pub mod TableRefusals
+pub mod TableOwners
+pub mod Examples
