@@ -1,11 +1,10 @@
 -- `scan_box` meets its contract.
 use native.Mathlib.Omega.{arith}
-use borrow.Author.Rules.{rules}
 use Rattle.scan.specs.Sweep.{node_asks, node_swept}
 use Rattle.scan.proofs.scan_box.Goals as goal
 
 pub visit_box-requires : goal.visit_box-requires
-visit_box-requires c = let whole = (node_asks c.requires.search c.requires.scans (omega (arith, c.if-w-eq0.false))) in record { step = whole.0; o_in_bounds = whole.1; }
+visit_box-requires c = let whole = (node_asks c.requires.search c.requires.scans (omega (arith, c.if-w-eq0.false))) in record { step = whole.0; o_in_bounds = whole.1 }
 
 pub returns : goal.returns
 returns c = node_swept c.requires.search c.requires.scans (omega (arith, c.if-w-eq0.false)) c.visit_box.ensures

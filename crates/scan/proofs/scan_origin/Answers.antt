@@ -1,13 +1,10 @@
 -- `scan_origin` meets its contract. The invariant: the box edges of the nodes passed are visited.
 use native.Mathlib.Omega.{arith}
-use Prim.Native.Nat.{◌≤◌, ◌<◌, ◌*◌, ◌-◌}
-use mathlib.Core.Path.{◌≡◌}
-use Rattle.scan.specs.Sweep.{Swept, EdgesBelow, swept_none, origin_asks, origin_more}
-use borrow.Author.Rules.{rules}
+use Rattle.scan.specs.Sweep.{origin_asks, origin_more}
 use Rattle.scan.proofs.scan_origin.Goals as goal
 
 pub visit_box-r-requires : goal.visit_box-r-requires
-visit_box-r-requires c = let a = c.loop-v in let whole = (origin_asks a.v c.requires.scans a.invariant.2 a.invariant.0 c.loop-v-test.true) in record { step = whole.0; o_in_bounds = whole.1; }
+visit_box-r-requires c = let a = c.loop-v in let whole = (origin_asks a.v c.requires.scans a.invariant.2 a.invariant.0 c.loop-v-test.true) in record { step = whole.0; o_in_bounds = whole.1 }
 
 pub loop-v-preserved : goal.loop-v-preserved
 loop-v-preserved c = let a = c.loop-v in
