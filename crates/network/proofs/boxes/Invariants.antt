@@ -1,11 +1,9 @@
 -- `boxes` meets its contract. The invariant: the nodes below v have their boxes, and nothing past them is changed.
-use native.Mathlib.Omega.{arith}
-use borrow.Author.Rules.{rules}
 use Prim.Native.Nat.{◌+◌, ◌*◌, ◌-◌, ◌≤◌, ◌<◌}
-use mathlib.Core.Path.{◌≡◌, refl, ◌∙◌}
+use mathlib.Core.Path.{◌≡◌}
 use lib.ListN.{length}
 use Rattle.network.specs.Stored.{at, Beyond}
-use Rattle.network.specs.Edges.{Boxes, boxes_none, boxes_more}
+use Rattle.network.specs.Edges.{Boxes}
 use Rattle.network.proofs.boxes.Given as goal
 
 abbrev pub invariant-loop-v : goal.invariant-loop-v

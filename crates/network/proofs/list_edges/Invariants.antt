@@ -1,9 +1,8 @@
 -- `list_edges` meets its contract. The invariant is the contract for the edges passed.
-use native.Mathlib.Omega.{arith}
 use Prim.Native.Nat.{◌≤◌, ◌-◌}
-use mathlib.Core.Path.{◌≡◌, refl, ◌∙◌}
+use mathlib.Core.Path.{◌≡◌}
 use lib.ListN.{length}
-use Rattle.network.specs.Index.{Index, end_tail, index_none, index_link}
+use Rattle.network.specs.Index.{Index}
 use Rattle.network.proofs.list_edges.Given as goal
 
 abbrev pub invariant-loop-e : goal.invariant-loop-e

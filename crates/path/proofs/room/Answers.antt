@@ -1,7 +1,6 @@
 -- `room` meets its contract. The invariant: the way from start to cur has room for f. The measure is the stamp of cur.
 use Rattle.path.specs.Way.{roaming_none, roaming_more}
 use Rattle.path.proofs.room.Goals as goal
-use Rattle.path.proofs.room.Goals.{In-loop-cur}
 
 pub loop-cur-init : goal.loop-cur-init
 loop-cur-init c = let s = c.requires.start_lt_nodes in

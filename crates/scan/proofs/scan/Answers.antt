@@ -1,6 +1,5 @@
 -- `scan` meets its contract: the three sweeps visit all edges at the node.
-use borrow.Author.Rules.{rules}
-use Rattle.scan.specs.Sweep.{next_scans, scans_still, scanned}
+use Rattle.scan.specs.Sweep.{scanned}
 use Rattle.scan.proofs.scan.Goals as goal
 
 pub returns : goal.returns

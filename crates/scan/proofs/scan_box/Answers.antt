@@ -1,6 +1,5 @@
 -- `scan_box` meets its contract.
 use native.Mathlib.Omega.{arith}
-use borrow.Author.Rules.{rules}
 use Rattle.scan.specs.Sweep.{node_asks, node_swept}
 use Rattle.scan.proofs.scan_box.Goals as goal
 

@@ -1,9 +1,6 @@
 -- `scan_origin` meets its contract. The invariant: the box edges of the nodes passed are visited.
-use native.Mathlib.Omega.{arith}
 use Prim.Native.Nat.{◌≤◌, ◌<◌, ◌*◌, ◌-◌}
-use mathlib.Core.Path.{◌≡◌}
-use Rattle.scan.specs.Sweep.{Swept, EdgesBelow, swept_none, origin_asks, origin_more}
-use borrow.Author.Rules.{rules}
+use Rattle.scan.specs.Sweep.{Swept, EdgesBelow}
 use Rattle.scan.proofs.scan_origin.Given as goal
 
 abbrev pub invariant-loop-v : goal.invariant-loop-v

@@ -1,9 +1,7 @@
 -- `scan_tails` meets its contract. The invariant: the edges of the list from x on are visited, and x - 1 is the next.
 use Prim.Native.Nat.{◌*◌, ◌-◌}
-use native.Mathlib.Omega.{arith}
 use mathlib.Core.Path.{refl}
-use Rattle.scan.specs.Sweep.{Sweep, Follows, sweep_sizes, sweep_none, follows, tail_asks, tail_more, sweep_done}
-use borrow.Author.Rules.{rules}
+use Rattle.scan.specs.Sweep.{Follows, follows, tail_asks, tail_more}
 use Rattle.scan.proofs.scan_tails.Goals as goal
 use Rattle.scan.proofs.scan_tails.Goals.{In-loop-x}
 
