@@ -14,7 +14,7 @@ use Rattle.temporal.proofs.Lists.{All-map, All-∈, length_tab, get_d_tab, le_la
 use Rattle.temporal.specs.Ticket.{Ticket, events, Window, origin, window_of, total}
 use Rattle.temporal.specs.Lattice.{high, meet, join}
 use Rattle.temporal.proofs.Lattice.{at_join, total_meet_join}
-use Rattle.temporal.specs.Best.{widest, widest_sets, latest_of, best_latest, Sooner, ChosenLatest, Closed}
+use Rattle.temporal.specs.Best.{widest_sets, latest_of, best_latest, Sooner, ChosenLatest, Closed}
 use Rattle.temporal.proofs.Best.{sooner_trans}
 use Rattle.temporal.proofs.Best.{le_widest, ordered, Widest, widest_length, widest_sets_are, ∈-widest_sets, attained}
 

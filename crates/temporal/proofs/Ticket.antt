@@ -1,5 +1,5 @@
 -- The laws of what specs/Ticket defines.
-use Rattle.std.specs.Prelude.{[], ℕ, ◌≤◌, leb}
+use Rattle.std.specs.Prelude.{ℕ, ◌≤◌, leb}
 use Rattle.std.proofs.Common.{arith, leb→le}
 use Rattle.temporal.proofs.Lists.{test-All, All-at}
 use Rattle.temporal.specs.Ticket.{weight, weights}

@@ -1,7 +1,7 @@
 -- Planning the latest plan (02, change 1): what it answers (`latest_answer`, `latest_unique`), that it refuses and returns as planning does (`latest_number`,
 -- `latest_total`), and that "its record counts as one from anywhere": it is a start that is read, so that the theorem of a run holds of every list of
 -- commitments on it (`latest_run`). Rests on Latest and RunHolds.
-use Rattle.std.specs.Prelude.{◌≡◌, false, [], ℕ, replicate}
+use Rattle.std.specs.Prelude.{◌≡◌, false, ℕ, replicate}
 use Rattle.temporal.specs.Ticket.{Ticket, Fit}
 use Rattle.temporal.specs.Best.{ChosenLatest}
 use Rattle.temporal.specs.Plan.{State, flagged}

@@ -1,5 +1,5 @@
 -- The laws of what specs/Content defines.
-use Rattle.std.specs.Prelude.{ℕ, ◌≡◌, refl, List, [], ◌≢◌, length}
+use Rattle.std.specs.Prelude.{ℕ, ◌≡◌, refl, List, ◌≢◌, length}
 use Rattle.std.proofs.Common.{sym, ap, subst, ◌∙◌, arith}
 use Rattle.temporal.specs.Ticket as temporal
 use Rattle.temporal.specs.Ticket.{events}

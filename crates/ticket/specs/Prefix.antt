@@ -1,6 +1,6 @@
 -- A ticket is decided by its first 1,585 bytes: cut there, whatever is longer is read, or refused, as before (`ticket_prefix`). Assumes nothing.
 use Prim.Native.Nat.{ℕ, ◌+◌, ◌≤◌}
-use Rattle.std.specs.Prelude.{◌≡◌, List, [], take}
+use Rattle.std.specs.Prelude.{◌≡◌, List, take}
 use Rattle.ticket.specs.Parser.{Out, got, refused}
 use Rattle.ticket.specs.Parser.{Parser}
 

@@ -5,11 +5,11 @@ use borrow.Author.Tests.{not-true, not-false}
 use mathlib.Core.Path.{sym, subst, ◌∙◌}
 use lib.Dec.{T}
 use Rattle.network.specs.Lists.{differ}
-use Rattle.ticket.specs.Content.{limits}
+use Rattle.ticket.proofs.Content.{limits}
 use Rattle.potentials.specs.Arrays.{valid_given}
 use Rattle.schedule.specs.Schedule.{low_zeros}
 use Rattle.closure.specs.Matrix.{entry}
-use Rattle.stops.specs.Steps.{first_top}
+use Rattle.stops.proofs.Steps.{first_top}
 use Rattle.part_windows.specs.Entries.{decided_tells, stops_kept, stops_distances}
 use Rattle.part_windows.proofs.close.Goals as goal
 

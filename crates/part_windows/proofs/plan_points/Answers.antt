@@ -4,7 +4,7 @@ use borrow.Author.Rules.{rules}
 use mathlib.Core.Path.{refl}
 use lib.ListN.{replicate}
 use Rattle.demands.specs.Network.{built_flowless}
-use Rattle.parts.specs.AllRules.{rules_most}
+use Rattle.parts.proofs.AllRules.{rules_most}
 use Rattle.windows.specs.Widest.{built_spans}
 use Rattle.part_network.specs.Lay.{bound_in}
 use Rattle.part_windows.specs.Planned.{part_few, part_top, part_ranged, entry_low, struct_held, struct_limits, start_meeting, plan_points}

@@ -2,7 +2,8 @@
 use borrow.Author.Rules.{rules}
 use mathlib.Core.List.{[], ◌∷◌}
 use mathlib.Core.Path.{◌∙◌}
-use Rattle.temporal.specs.Lists.{T-true, tab}
+use Rattle.temporal.proofs.Lists.{T-true}
+use Rattle.temporal.specs.Lists.{tab}
 use Rattle.temporal.specs.Distance.{consistent}
 use Rattle.temporal.specs.Run.{Valid}
 use Rattle.ticket.specs.Writing.{content}

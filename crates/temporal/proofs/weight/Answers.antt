@@ -1,7 +1,6 @@
 -- `temporal::weight` is the definition's table, entry by entry, and 0 past it.
 use mathlib.Core.Path.{refl, sym}
 use native.Mathlib.Omega.{arith}
-use borrow.Author.Rules.{rules}
 use Rattle.temporal.proofs.Lists.{get_d_past}
 use Rattle.temporal.specs.Ticket.{weights, weight}
 use Rattle.temporal.proofs.weight.Goals as goal
