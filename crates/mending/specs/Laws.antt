@@ -2,7 +2,7 @@
 -- schedule), and on `paths` for the rules by their numbers.
 use Prim.Native.Nat.{ℕ}
 use Rattle.std.specs.Prelude.{not, ◌||◌, eqb}
-use mathlib.Core.List.{List, []}
+use mathlib.Core.List.{List}
 use Rattle.temporal.specs.Ticket.{Rule, Ticket, Schedule}
 use Rattle.mending.specs.Selection.{dropped}
 use Rattle.mending.specs.Split.{has, passing}

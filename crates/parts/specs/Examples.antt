@@ -1,7 +1,7 @@
 -- The parts of P1, also on bytes, as one table: a device, its part and its total, whatever output of 362 bytes or more is lent. And the parts of P1 without the
 -- two rules that join its devices: there the parts give the plan.
 use Rattle.std.specs.Prelude.{◌≡◌, List, [], ◌∷◌, ℕ, ◌≤◌, pos, length}
-use Rattle.temporal.specs.Ticket.{Ticket, total}
+use Rattle.temporal.specs.Ticket.{Ticket}
 use Rattle.temporal.specs.Examples.{rule, minus}
 use Rattle.parts.specs.Parting.{writing, parting}
 

@@ -5,7 +5,7 @@
 use Rattle.std.specs.Prelude.{ℕ, ◌+◌, ◌*◌, ◌≤◌, ◌<◌, ◌≡◌, length, get_or}
 use mathlib.Core.List.{List, [], ◌∷◌, map}
 use Rattle.std.proofs.Math.ListN.{take}
-use Rattle.temporal.specs.Ticket.{Ticket, Schedule, Window, window_of, Fit, fits, total}
+use Rattle.temporal.specs.Ticket.{Ticket, Schedule, Window, window_of, Fit, total}
 use Rattle.temporal.specs.Best.{Chosen}
 use Rattle.ticket.specs.Parser.{Cause, number, got, refused, Parser, ◌>>=◌, give, byte, little, many, wholly}
 use Rattle.ticket.specs.Format.{read_ticket}

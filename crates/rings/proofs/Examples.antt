@@ -1,5 +1,5 @@
 -- The laws of what specs/Examples defines.
-use Rattle.std.specs.Prelude.{◌≡◌, Bool, not, ◌&&◌, [], ℕ, T, leb, eqb, pos, negsuc, length}
+use Rattle.std.specs.Prelude.{◌≡◌, Bool, not, ◌&&◌, ℕ, T, leb, eqb, pos, negsuc, length}
 use Rattle.std.proofs.Common.{sym, T_not, leb→le}
 use Rattle.std.proofs.Math.Dec.{eqb_refl}
 use Rattle.std.specs.Int.Signed.{le_z, le_z_yes}

@@ -1,5 +1,5 @@
 -- Closed walks with a negative sum, its numbers without a sign; they are rings from whichever rule they start. Rests on paths' Walks.
-use Rattle.std.specs.Prelude.{List, [], ℕ, ◌≤◌, ◌<◌, length}
+use Rattle.std.specs.Prelude.{List, ℕ, ◌≤◌, ◌<◌, length}
 use Rattle.temporal.specs.Lists.{All}
 use Rattle.temporal.specs.Ticket.{Ticket}
 use Rattle.paths.specs.Rules.{Number, Walk}

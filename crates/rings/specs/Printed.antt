@@ -1,8 +1,7 @@
 -- The ring that is printed, for a ticket without a schedule: it is a ring with the fewest rules possible, it starts at its lowest number, and
 -- every other such ring comes after it in dictionary order (`ring_printed`); no other list is so (`printed_ring`). Its points and its numbers
 -- are all different, and it has at most n + 1 of them.
-use Rattle.std.specs.Prelude.{◌≡◌, List, [], ℕ, ◌≤◌, length}
-use mathlib.Core.List.Memᴰ
+use Rattle.std.specs.Prelude.{◌≡◌, List, ℕ, ◌≤◌, length}
 use Rattle.temporal.specs.Ticket.{Ticket}
 use Rattle.rings.specs.Order.{Before}
 use Rattle.rings.specs.Turns.{Lowest}

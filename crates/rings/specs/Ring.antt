@@ -1,7 +1,6 @@
 -- Rings of rules, and the ring that is printed (02, change 2). The definitions go through all lists of numbers, as temporal's do; the laws are in the
 -- files below. Rests on `paths` for the rules with their numbers and walks along them.
 use Rattle.std.specs.Prelude.{Bool, ◌&&◌, List, [], ◌∷◌, ℕ, suc, ◌≤◌, leb, eqb, pos, ◌<ℤ◌, length}
-use mathlib.Core.List.Memᴰ
 use Rattle.std.specs.Int.Signed.{lt_z}
 use Rattle.temporal.specs.Lists.{all, All, keep, tuples, tab}
 use Rattle.temporal.specs.Ticket.{Ticket, events}

@@ -3,7 +3,7 @@ use Rattle.std.specs.Prelude.{◌≡◌, refl, true, List, [], ◌∷◌, ◌⊎
 use Rattle.std.proofs.Common.{sym, ap, ◌∙◌, inl, inr, ⊎_elim, arith}
 use Rattle.std.proofs.Math.Seq.{drop-append_seam}
 use Rattle.temporal.proofs.Lists.{below_or_not}
-use Rattle.temporal.specs.Ticket.{Ticket, events, total}
+use Rattle.temporal.specs.Ticket.{Ticket, events}
 use Rattle.temporal.specs.Plan.{State, Answer, accepted, plan, committed, commit}
 use Rattle.temporal.specs.Run.{Valid, Readable, Place}
 use Rattle.temporal.specs.Run as states

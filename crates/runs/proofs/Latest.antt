@@ -7,7 +7,7 @@ use mathlib.Core.List.{List, []}
 use native.Mathlib.Omega.{arith}
 use Rattle.std.proofs.Math.Dec.{T}
 use Rattle.std.proofs.Math.ListN.{length}
-use Rattle.temporal.specs.Ticket.{Ticket, Schedule, Fit, total}
+use Rattle.temporal.specs.Ticket.{Ticket, Schedule, Fit}
 use Rattle.temporal.specs.Distance.{consistent}
 use Rattle.temporal.specs.Plan.{State, Answer, accepted, planned, plan, planned_latest, plan_latest}
 use Rattle.temporal.specs.Run.{Valid, Readable, Place, Answered}

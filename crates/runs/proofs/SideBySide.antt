@@ -1,7 +1,7 @@
 -- The laws of what specs/SideBySide defines.
 use Rattle.std.specs.Prelude.{◌≡◌, refl, Bool, true, false, cond, List, [], ◌∷◌, map, ◌≢◌, ℕ, T, eqb, replicate}
 use Rattle.std.proofs.Common.{sym, ap, subst₂, ◌∙◌, arith}
-use Rattle.temporal.specs.Ticket.{Ticket, Schedule, Fit, total}
+use Rattle.temporal.specs.Ticket.{Ticket, Schedule, Fit}
 use Rattle.temporal.specs.Best.{Chosen}
 use Rattle.temporal.specs.Plan.{State, Commitment, Answer, refused, accepted, number, flagged, plan, plan_latest, cause, committed, commit}
 use Rattle.temporal.specs.Run.{Valid, Readable, Place, Answered}

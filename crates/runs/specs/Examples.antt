@@ -3,10 +3,9 @@
 -- the counts of its two devices (02, change 5), a fourth P4 and P10 with other owners (02, change 7).
 -- What is decided of the tickets and records is `temporal`'s Examples; here the bytes are read and written.
 use Rattle.std.specs.Prelude.{◌≡◌, true, List, [], ◌∷◌, ◌++◌, ℕ, ◌-◌, ◌≤◌, ℤ, pos, length, drop}
-use Rattle.temporal.specs.Ticket.{Rule, total}
+use Rattle.temporal.specs.Ticket.{Rule}
 use Rattle.temporal.specs.Table.{table_of}
 use Rattle.temporal.specs.Examples.{minus as negative, ticket1}
-use Rattle.ticket.specs.Parser.{number}
 use Rattle.ticket.specs.Writing.{over}
 use Rattle.runs.specs.Calls.{Outcome, room, cleared, refusing}
 use Rattle.runs.specs.Calls.{planning, planning_latest, committing}

@@ -1,6 +1,6 @@
 -- An accepted call: "length and total follow from the record" (01, "The job"), which is read from the start of the output that the call leaves
 -- (`plan_tells`, `commit_tells`); and the plan of a ticket with no events (`plan_nothing`). Rests on the round trips of `ticket` and on Refusals.
-use Rattle.std.specs.Prelude.{◌≡◌, [], length, drop}
+use Rattle.std.specs.Prelude.{◌≡◌, drop}
 use Rattle.temporal.specs.Ticket.{total}
 use Rattle.temporal.specs.Plan.{State}
 use Rattle.ticket.specs.Parser.{got}

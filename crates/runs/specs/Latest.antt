@@ -4,7 +4,6 @@
 use Rattle.std.specs.Prelude.{◌≡◌, ◌≢◌, ℕ, replicate}
 use Rattle.std.proofs.Math.Bool.{false}
 use mathlib.Core.List.{List, []}
-use Rattle.std.proofs.Math.ListN.{length}
 use Rattle.temporal.specs.Ticket.{Fit, total}
 use Rattle.temporal.specs.Best.{ChosenLatest}
 use Rattle.temporal.specs.Plan.{State, flagged}

@@ -2,7 +2,7 @@
 -- applies (`plan_refusal`, `commit_refusal`; of 9 alone `plan_nine`, of 11 and 12 `commit_neither`), so one to which none applies is accepted (`commit_accepted`);
 -- and a refusal returns "number, zeros elsewhere" and leaves the output as it was (`plan_zeros`, `latest_zeros`, `commit_zeros`). The causes of a planning are Run's `Unplanned`.
 -- Rests on Calls and on `temporal`'s causes.
-use Rattle.std.specs.Prelude.{◌≡◌, List, [], ◌≢◌, ℕ, ◌≤◌, ◌<◌, T}
+use Rattle.std.specs.Prelude.{◌≡◌, List, ◌≢◌, ℕ, ◌≤◌, ◌<◌, T}
 use Rattle.temporal.specs.Plan.{State}
 use Rattle.temporal.specs.Run.{FirstCause}
 use Rattle.ticket.specs.Parser.{Cause, number, refused, wholly}

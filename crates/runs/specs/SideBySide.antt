@@ -3,7 +3,7 @@
 -- `side_by_side` holds from any two records, and `plans_side_by_side` and `latest_side_by_side` from two tickets. Rests on `run`.
 use Rattle.std.specs.Prelude.{◌≡◌, List, [], ◌∷◌, ◌≢◌, ℕ}
 use Rattle.temporal.specs.Ticket.{Ticket, total}
-use Rattle.temporal.specs.Plan.{State, Answer, refused, accepted, number, commit}
+use Rattle.temporal.specs.Plan.{State, Answer, refused, accepted, commit}
 use Rattle.temporal.specs.Run.{Readable}
 use Rattle.ticket.specs.Format.{state_size}
 use Rattle.runs.specs.Calls.{Outcome}

@@ -1,11 +1,10 @@
 -- The laws of what specs/View defines.
-use Rattle.std.specs.Prelude.{◌≡◌, true, false, List, [], ℕ, ◌≤◌, ◌<◌, length}
+use Rattle.std.specs.Prelude.{◌≡◌, true, false, List, ℕ, ◌≤◌, ◌<◌, length}
 use borrow.Author.Tests.{le-leb, lt-leb, lt-ltb, le-ltb}
 use Rattle.temporal.specs.Ticket.{fits}
 use Rattle.temporal.specs.Plan.{State}
 use Rattle.ticket.specs.Parser.{wholly}
 use Rattle.ticket.specs.Format.{read_state}
-use Rattle.ticket.specs.Writer.{bytes}
 use Rattle.viewing.specs.View.{after_reading, refusing, showing, view, viewed, viewing}
 
 -- ---- the same by cases

@@ -3,7 +3,6 @@
 -- that it is read back (`view_read`). Assumes nothing.
 use Rattle.std.specs.Prelude.{◌≡◌, ◌⊎◌}
 use mathlib.Core.List.{List, [], ◌∷◌, map}
-use mathlib.Core.List.Memᴰ
 use Prim.Native.Nat.{ℕ, ◌<◌}
 use Rattle.temporal.specs.Lists.{All}
 use Rattle.temporal.specs.Plan.{State, owner_of}

@@ -2,10 +2,10 @@
 -- database has the same event numbers, windows, flags and commitment number, its view and the number answered to its commitment are equal." All else of the
 -- records may differ. The statement stands first; the theorem is `noninterference`, last, and of states `same_view` and `same_number`.
 use Rattle.std.specs.Prelude.{◌≡◌, ◌↔◌, length}
-use mathlib.Core.List.{List, []}
+use mathlib.Core.List.{List}
 use Prim.Native.Nat.{ℕ, ◌≤◌}
 use Rattle.temporal.specs.Ticket.{window_of, Fit}
-use Rattle.temporal.specs.Plan.{State, count_of, number, flagged}
+use Rattle.temporal.specs.Plan.{State, count_of, flagged}
 use Rattle.temporal.specs.Run.{Own}
 use Rattle.ticket.specs.RoundTrip.{Bytes}
 use Rattle.runs.specs.Calls.{committing}
