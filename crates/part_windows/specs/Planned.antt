@@ -4,35 +4,31 @@ use Rattle.std.specs.Prelude.{ℕ, zero, suc, ◌+◌, ◌*◌, ◌-◌, ◌≤�
 use Rattle.std.proofs.Common.{sym, ap₂, ◌∙◌, arith, ext_get_or}
 use Rattle.std.proofs.Math.Path.{ap, subst}
 use Rattle.std.proofs.lemmas.List.{length-map, get_or-replicate}
-use Rattle.std.proofs.Math.ListN.{get_or-map}
-use Rattle.temporal.specs.Lists.{All}
 use Rattle.temporal.specs.Bound.{above, below}
 use Rattle.temporal.specs.Ticket as temporal
 use Rattle.temporal.specs.Ticket.{Rule, Window, events, time, origin, window_of, fits, total_of}
 use Rattle.temporal.specs.Ends.{Ends}
 use Rattle.temporal.proofs.Ends.{fits_ends, ends_fits, fit_ends}
 use Rattle.temporal.specs.Distance.{consistent, distance}
-use Rattle.temporal.specs.Best.{Chosen, best}
+use Rattle.temporal.specs.Best.{Chosen}
 use Rattle.temporal.proofs.Best.{chosen_best, chosen_under}
 use Rattle.temporal.proofs.FitSets.{fits_closed, at_still, schedule_fits}
 use Rattle.temporal.specs.FitSets.{still}
 use Rattle.temporal.specs.Run.{Valid}
 use Rattle.network.specs.Stored.{at}
-use Rattle.network.specs.Grow.{Flowless}
 use Rattle.flow.specs.Width.{LeastWidest}
 use Rattle.network.specs.Stored.{stored}
-use Rattle.flow.specs.Solve.{Spans}
 use Rattle.ticket.specs.Writing.{firsts, content}
 use Rattle.ticket.proofs.WritingLaws.{length_firsts, get_d_firsts}
 use Rattle.ticket.proofs.Content.{in_events}
 use Rattle.ticket.specs.declared.Ticket.{Ticket}
-use Rattle.potentials.specs.Arrays.{window_list, length_window_list, window_at_lem, Held, valid_given}
+use Rattle.potentials.specs.Arrays.{window_list, window_at_lem, Held}
 use Rattle.potentials.specs.Nodes.{by_nodes, windows_of, potential_of, potential_open, potential_close}
 use Rattle.potentials.specs.Pairs.{Pairs, Read, read_windows_lem, replicate_most}
-use Rattle.demands.specs.Network.{Built, Limits, Meeting, meeting_same, edges, built_flowless}
-use Rattle.windows.specs.Boxes.{Allowed, Free, free_boxes, free_allowed, free_chosen}
-use Rattle.windows.specs.Widest.{built_spans, potential_chosen}
-use Rattle.closure.specs.Signed.{bias, lower}
+use Rattle.demands.specs.Network.{Built, Limits, Meeting, meeting_same, edges}
+use Rattle.windows.specs.Boxes.{free_boxes, free_allowed, free_chosen}
+use Rattle.windows.specs.Widest.{potential_chosen}
+use Rattle.closure.specs.Signed.{lower}
 use Rattle.closure.specs.Matrix.{entry}
 use Rattle.parts.specs.Part.{members, point, all_rules, distance_of, part_ticket, part_plan, part_total}
 use Rattle.parts.proofs.AllRules.{rules_all, rules_cong, rules_most}

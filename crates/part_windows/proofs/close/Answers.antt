@@ -1,7 +1,5 @@
 -- `close` meets its contract: the test tells whether there is a schedule, and then all stops leave the distances.
 use native.Mathlib.Omega.{arith}
-use borrow.Author.Rules.{rules}
-use borrow.Author.Tests.{not-true, not-false}
 use mathlib.Core.Path.{sym, subst, ◌∙◌}
 use lib.Dec.{T}
 use Rattle.network.specs.Lists.{differ}
@@ -23,9 +21,9 @@ schedule-requires c = let t = c.args.t in
 
 pub returns-then-not-schedule : goal.returns-then-not-schedule
 returns-then-not-schedule c = let e = c.if-not-schedule.true in record {
-      found_value = sym e ∙ decided_tells c.args.t c.requires c.schedule.ensures.decided;
-      distances = λ q. differ (sym q);
-    }
+  found_value = sym e ∙ decided_tells c.args.t c.requires c.schedule.ensures.decided;
+  distances = λ q. differ (sym q);
+}
 
 pub overflow_add-n : goal.overflow_add-n
 overflow_add-n c = omega (arith, (limits c.args.t c.requires).few)

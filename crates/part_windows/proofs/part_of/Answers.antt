@@ -1,8 +1,5 @@
 -- `part_of` meets its contract, by those of its parts.
-use native.Mathlib.Omega.{arith}
-use borrow.Author.Rules.{rules}
 use mathlib.Core.Path.{refl, ◌∙◌}
-use Rattle.ticket.proofs.Content.{limits}
 use Rattle.part_windows.specs.Planned.{placed_given, part_few, part_lies, part_total_lem}
 use Rattle.part_windows.proofs.part_of.Goals as goal
 

@@ -1,6 +1,5 @@
 -- `plan_points` meets its contract, by those of its parts.
 use native.Mathlib.Omega.{arith}
-use borrow.Author.Rules.{rules}
 use mathlib.Core.Path.{refl}
 use lib.ListN.{replicate}
 use Rattle.demands.specs.Network.{built_flowless}
@@ -12,16 +11,16 @@ use Rattle.part_windows.proofs.plan_points.Goals as goal
 
 pub build-m-requires : goal.build-m-requires
 build-m-requires c = let P = c.requires.given_part in record {
-      n_bound = (part_few P, part_top P, omega arith);
-      ranged = part_ranged P;
-    }
+  n_bound = (part_few P, part_top P, omega arith);
+  ranged = part_ranged P;
+}
 
 pub lay_earliest-requires : goal.lay_earliest-requires
 lay_earliest-requires c = let P = c.requires.given_part in record {
-      n_bound = part_few P;
-      nodes = record { long = refl; origin = refl };
-      by_index = entry_low P;
-    }
+  n_bound = part_few P;
+  nodes = record { long = refl; origin = refl };
+  by_index = entry_low P;
+}
 
 pub widest-requires : goal.widest-requires
 widest-requires c = let a = c.args in
@@ -36,9 +35,9 @@ widest-requires c = let a = c.args in
 
 pub read_windows-requires : goal.read_windows-requires
 read_windows-requires c = record {
-      n_bound = part_few c.requires.given_part;
-      opens_len = c.requires.opens_len;
-    }
+  n_bound = part_few c.requires.given_part;
+  opens_len = c.requires.opens_len;
+}
 
 pub returns : goal.returns
 returns c = let W = c.widest.ensures in

@@ -1,5 +1,4 @@
 -- `totals` meets its contract.
-use borrow.Author.Rules.{rules}
 use mathlib.Core.List.{[], ◌∷◌}
 use mathlib.Core.Path.{◌∙◌}
 use Rattle.temporal.proofs.Lists.{T-true}
