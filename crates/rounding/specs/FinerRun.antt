@@ -1,7 +1,7 @@
 -- A finer grid gains no width (02, change 10), on bytes: of every plan and every latest plan, and of every accepted commitment in every list of commitments.
 -- The total is the one that the call returns. The theorems are `finer_run` and `finer_latest`; they rest on `runs`' theorems `run` and `latest_run`.
 use Rattle.std.specs.Prelude.{◌≡◌, List, [], ◌∷◌, ◌≢◌, ℕ, ◌≤◌}
-use Rattle.temporal.specs.Ticket.{Ticket, Window, Fit, total}
+use Rattle.temporal.specs.Ticket.{Ticket, Window, Fit}
 use Rattle.temporal.specs.Plan.{State, Commitment}
 use Rattle.ticket.specs.Parser.{got, wholly}
 use Rattle.ticket.specs.Format.{read_ticket}

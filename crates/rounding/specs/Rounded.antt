@@ -1,6 +1,6 @@
 -- Windows of q-th parts rounded to whole ticks: a set that is fit on the grid is fit after each of the q roundings (`rounded_fit`), and is as wide as these
 -- together (`total_rounded`).
-use Rattle.std.specs.Prelude.{List, [], map, ℕ}
+use Rattle.std.specs.Prelude.{List, map, ℕ}
 use Rattle.temporal.specs.Ticket.{Window}
 use Rattle.rounding.specs.Round.{round}
 

@@ -1,6 +1,6 @@
 -- A ticket multiplied by q: its horizon and all its bounds. Its ticks are the grid of q-th ticks, so its fit sets are those of the grid (`fine_fit`); and
 -- the fit sets of the ticket, multiplied, are among them, as wide (`scaled_fit`, `total_scaled`).
-use Rattle.std.specs.Prelude.{List, [], map, ℕ, ◌*◌, pos, ◌*ℤ◌}
+use Rattle.std.specs.Prelude.{List, map, ℕ, ◌*◌, pos, ◌*ℤ◌}
 use Rattle.temporal.specs.Ticket.{Rule, Ticket, Window}
 use Rattle.rounding.specs.Grid.{scale_window}
 
