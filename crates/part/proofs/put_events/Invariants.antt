@@ -1,0 +1,19 @@
+-- The invariant: the events so far are stored after the count.
+use native.Mathlib.Omega.{arith}
+use borrow.Author.Rules.{rules}
+use Prim.Native.Nat.{suc, ◌+◌, ◌*◌, ◌-◌, ◌≤◌}
+use mathlib.Core.Path.{◌≡◌, refl, sym, ap, ◌∙◌}
+use lib.ListN.{length}
+use lib.Seq.{sets}
+use Rattle.network.specs.Stored.{at}
+use Rattle.ticket.specs.Writer.{each}
+use Rattle.ticket.specs.Writing.{firsts}
+use Rattle.parts.specs.Parting.{write_numbered}
+use Rattle.part.specs.Stored.{numbered_in, numbered_more, numbered_bytes}
+use Rattle.part.proofs.put_events.Given as goal
+
+abbrev pub invariant-loop-i : goal.invariant-loop-i
+invariant-loop-i l = (l.i ≤ l.n) × (length l.out ≡ length l.initial.out) × (l.out ≡ sets l.initial.out 2 (each write_numbered (firsts l.i (numbered_in l.points l.opens l.closes))))
+
+abbrev pub decreases-loop-i : goal.decreases-loop-i
+decreases-loop-i l = l.n - l.i
