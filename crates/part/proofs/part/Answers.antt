@@ -1,8 +1,8 @@
 -- `part::part` meets its contract: 10 first, then 4, then a refused reading answers its number, and of what was read the part is written.
 use native.Mathlib.Omega.{arith}
 use borrow.Author.Rules.{rules}
-use Rattle.ticket.specs.Content.{read_valid}
-use Rattle.parts.specs.Parting.{parting_short, parting_unknown}
+use Rattle.ticket.proofs.Content.{read_valid}
+use Rattle.parts.proofs.Parting.{parting_short, parting_unknown}
 use Rattle.part.specs.Steps.{meets_refused, ticket_misread, ticket_parted}
 use Rattle.part.proofs.part.Goals as goal
 

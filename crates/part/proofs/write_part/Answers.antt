@@ -6,7 +6,8 @@ use mathlib.Core.Path.{◌≡◌, sym, ap, ◌∙◌}
 use lib.Seq.{sets}
 use Rattle.ticket.specs.Writer.{bytes, each}
 use Rattle.ticket.specs.Writing.{firsts, content}
-use Rattle.parts.specs.Parting.{write_numbered, parted_none}
+use Rattle.parts.specs.Parting.{write_numbered}
+use Rattle.parts.proofs.Parting.{parted_none}
 use Rattle.part_windows.specs.Planned.{IsPart}
 use Rattle.part.specs.Stored.{numbered_in}
 use Rattle.part.specs.Steps.{meets_refused, event_most, part_written}
