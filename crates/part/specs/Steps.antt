@@ -1,5 +1,5 @@
 -- What the code has answered and written at each of its returns. Rests on `parts`' Parting and Parted, on part_windows' IsPart, and on `ticket` for what reading answers.
-use Rattle.std.specs.Prelude.{ℕ, suc, ◌+◌, ◌*◌, ◌≤◌, ◌<◌, ◌≡◌, List, ◌++◌, true, ◌≢◌, get_or}
+use Rattle.std.specs.Prelude.{ℕ, suc, ◌+◌, ◌*◌, ◌≤◌, ◌<◌, ◌≡◌, List, true, ◌≢◌, get_or}
 use Rattle.std.proofs.Common.{sym, ◌∙◌, arith}
 use Rattle.std.proofs.Math.Path.{ap, subst}
 use Rattle.std.proofs.Math.ListN.{length}
@@ -20,7 +20,7 @@ use Rattle.writing.specs.Stores.{sets_over, sets_then}
 use Rattle.potentials.specs.Arrays.{window_at_lem}
 use Rattle.parts.specs.Part.{members, part_total}
 use Rattle.parts.specs.Members.{point_most}
-use Rattle.parts.specs.Parting.{Numbered, numbered_at, numbered, write_numbered, write_part, Outcome, refusing, accepting, parted, after_reading, parting, parting_read, parted_some}
+use Rattle.parts.specs.Parting.{numbered_at, numbered, write_numbered, write_part, Outcome, refusing, parted, after_reading, parting, parting_read, parted_some}
 use Rattle.parts.specs.Parted.{length_part, part_size}
 use Rattle.part_windows.specs.declared.Part.{Part}
 use Rattle.part_windows.specs.Planned.{IsPart}
