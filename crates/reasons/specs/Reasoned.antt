@@ -2,7 +2,7 @@
 -- length 0 and the output as it was (`reason_zeros`), and never with 9 (`reason_not_nine`); otherwise it prints the ring (`reason_printed`), from whose text
 -- numbers and bounds are read back (`reason_reads`). So a ticket that is read, with its lists, gets the ring or 17 and never both (`ring_or_schedule`).
 -- Rests on Reasoning, Reading and Size, and on `rings` for what the ring is.
-use Rattle.std.specs.Prelude.{◌≡◌, true, List, [], ℕ, ◌≤◌, ◌<◌, length}
+use Rattle.std.specs.Prelude.{◌≡◌, true, List, ℕ, ◌≤◌, ◌<◌, length}
 use Rattle.temporal.specs.Ticket.{Ticket, Schedule, events}
 use Rattle.ticket.specs.Parser.{Cause, number, refused, wholly}
 use Rattle.ticket.specs.Format.{read_ticket}

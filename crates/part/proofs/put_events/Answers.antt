@@ -1,11 +1,8 @@
 -- `put_events` meets its contract. The invariant: the events so far are stored after the count.
 use native.Mathlib.Omega.{arith}
-use borrow.Author.Rules.{rules}
-use Prim.Native.Nat.{suc, ◌+◌, ◌*◌, ◌-◌, ◌≤◌}
-use mathlib.Core.Path.{◌≡◌, refl, sym, ap, ◌∙◌}
-use lib.ListN.{length}
+use Prim.Native.Nat.{◌+◌, ◌*◌}
+use mathlib.Core.Path.{refl, sym, ap, ◌∙◌}
 use lib.Seq.{sets}
-use Rattle.network.specs.Stored.{at}
 use Rattle.ticket.specs.Writer.{each}
 use Rattle.ticket.specs.Writing.{firsts}
 use Rattle.parts.specs.Parting.{write_numbered}

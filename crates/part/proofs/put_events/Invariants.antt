@@ -1,15 +1,12 @@
 -- The invariant: the events so far are stored after the count.
-use native.Mathlib.Omega.{arith}
-use borrow.Author.Rules.{rules}
-use Prim.Native.Nat.{suc, ◌+◌, ◌*◌, ◌-◌, ◌≤◌}
-use mathlib.Core.Path.{◌≡◌, refl, sym, ap, ◌∙◌}
+use Prim.Native.Nat.{◌-◌, ◌≤◌}
+use mathlib.Core.Path.{◌≡◌}
 use lib.ListN.{length}
 use lib.Seq.{sets}
-use Rattle.network.specs.Stored.{at}
 use Rattle.ticket.specs.Writer.{each}
 use Rattle.ticket.specs.Writing.{firsts}
 use Rattle.parts.specs.Parting.{write_numbered}
-use Rattle.part.specs.Stored.{numbered_in, numbered_more, numbered_bytes}
+use Rattle.part.specs.Stored.{numbered_in}
 use Rattle.part.proofs.put_events.Given as goal
 
 abbrev pub invariant-loop-i : goal.invariant-loop-i

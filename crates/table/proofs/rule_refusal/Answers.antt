@@ -1,4 +1,5 @@
 -- `rule_refusal` meets its contract. Assumes nothing.
+use Rattle.std.proofs.Common.{arith, ◌≢◌}
 use mathlib.Core.Path.{sym}
 use borrow.Author.Tests.{le-ltb, ne_eqb}
 use mir.Facts.{to_z-of_z}
@@ -22,9 +23,11 @@ returns-then-c-lt-LEAST_BOUND c = let low = rw (to_z-of_z c.ranges.c) at c.if-c-
 
 pub returns-then-c-gt-BOUND : goal.returns-then-c-gt-BOUND
 unfolding rule_cause
-returns-then-c-gt-BOUND c = let low = rw (to_z-of_z c.ranges.c) at c.if-c-lt-LEAST_BOUND.false in
+returns-then-c-gt-BOUND c =
+    let apart : c.args.i ≢ c.args.j = λ same. omega arith in
+    let low = rw (to_z-of_z c.ranges.c) at c.if-c-lt-LEAST_BOUND.false in
     let high = rw (to_z-of_z c.ranges.c) at c.if-c-gt-BOUND.true in
-    simp (le-ltb _ _ c.if-n-i.false, le-ltb _ _ c.if-n-j.false, ne_eqb _ _ c.if-i-j.false, low, high)
+    simp (le-ltb _ _ c.if-n-i.false, le-ltb _ _ c.if-n-j.false, ne_eqb _ _ apart, low, high)
 
 pub returns : goal.returns
 unfolding rule_cause

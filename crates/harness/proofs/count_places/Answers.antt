@@ -1,0 +1,16 @@
+-- `harness::count_places` meets its contract. The invariant: the first i places hold the first i numbers. Assumes nothing.
+use mathlib.Core.Path.{refl, ap, ◌∙◌}
+use native.Mathlib.Omega.{arith}
+use lib.ListN.{set, get_or}
+use Rattle.ticket.specs.Stored.{pad}
+use Rattle.harness.specs.Values.{placed_more}
+use Rattle.harness.proofs.count_places.Goals as goal
+
+pub loop-i-init : goal.loop-i-init
+unfolding pad
+loop-i-init c = (omega arith, refl)
+
+pub loop-i-preserved : goal.loop-i-preserved
+loop-i-preserved c = let s = c.args.s.now in
+    let l = c.loop-i in
+    (omega arith, ap (λ a. set a l.i (get_or s l.i 0)) l.invariant.1 ∙ placed_more 0 5 s l.i (omega arith) (omega arith))
