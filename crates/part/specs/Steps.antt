@@ -19,17 +19,10 @@ use Rattle.ticket.specs.declared.ReadTicket.{ReadTicket}
 use Rattle.writing.specs.Stores.{sets_over, sets_then}
 use Rattle.potentials.specs.Arrays.{window_at_lem}
 use Rattle.parts.specs.Part.{members, part_total}
-<<<<<<< HEAD
-use Rattle.parts.proofs.Members.{point_most}
-use Rattle.parts.specs.Parting.{Numbered, numbered_at, numbered, write_numbered, write_part, Outcome, refusing, accepting, parted, after_reading, parting}
-use Rattle.parts.proofs.Parting.{parting_read, parted_some}
-use Rattle.parts.proofs.Parted.{length_part, part_size}
-=======
 use Rattle.parts.proofs.Members.{point_most}
 use Rattle.parts.specs.Parting.{numbered_at, numbered, write_numbered, write_part, Outcome, refusing, parted, after_reading, parting}
 use Rattle.parts.proofs.Parting.{parting_read, parted_some}
 use Rattle.parts.proofs.Parted.{length_part, part_size}
->>>>>>> 655aaf67994632d19535c50006b4d59305100f8f
 use Rattle.part_windows.specs.declared.Part.{Part}
 use Rattle.part_windows.specs.Planned.{IsPart}
 use Rattle.part.specs.Returned.{returned}

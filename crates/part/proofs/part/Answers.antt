@@ -1,13 +1,7 @@
 -- `part::part` meets its contract: 10 first, then 4, then a refused reading answers its number, and of what was read the part is written.
 use native.Mathlib.Omega.{arith}
-<<<<<<< HEAD
-use borrow.Author.Rules.{rules}
 use Rattle.ticket.proofs.Content.{read_valid}
 use Rattle.parts.proofs.Parting.{parting_short, parting_unknown}
-=======
-use Rattle.ticket.proofs.Content.{read_valid}
-use Rattle.parts.proofs.Parting.{parting_short, parting_unknown}
->>>>>>> 655aaf67994632d19535c50006b4d59305100f8f
 use Rattle.part.specs.Steps.{meets_refused, ticket_misread, ticket_parted}
 use Rattle.part.proofs.part.Goals as goal
 
