@@ -1,6 +1,6 @@
 -- The mirror of a ticket: each time t replaced by the horizon minus t (02, change 1). Mirroring twice gives everything back; the schedules and
 -- the fit sets of the mirror are the mirrored ones, as wide as they were. Rests on temporal's Ticket, Bound and Ends.
-use Rattle.std.specs.Prelude.{List, [], map, ◌≢◌, ℕ, zero, suc, ◌-◌, ◌≤◌, ℤ, pos, ◌+ℤ◌, ◌-ℤ◌}
+use Rattle.std.specs.Prelude.{List, map, ◌≢◌, ℕ, zero, suc, ◌-◌, ◌≤◌, ℤ, pos, ◌+ℤ◌, ◌-ℤ◌}
 use Rattle.temporal.specs.Lists.{All}
 use Rattle.temporal.specs.Ticket.{Rule, Ticket, events, Window}
 

@@ -1,6 +1,6 @@
 -- The mirror in arrays: what the loops of the code leave, and that the struct they make says the cut mirror. Rests on Cut and on `ticket`'s
 -- `content`.
-use Rattle.std.specs.Prelude.{◌≡◌, List, [], ℕ, ◌-◌, ◌≤◌, ◌<◌, ℤ, pos, length, get_or, replicate}
+use Rattle.std.specs.Prelude.{◌≡◌, List, ℕ, ◌-◌, ◌≤◌, ◌<◌, ℤ, pos, length, get_or, replicate}
 use Rattle.network.specs.Stored.{at}
 use Rattle.ticket.specs.declared.Ticket.{Ticket}
 use Rattle.mirror.specs.Cut.{cut_mirror_bound}

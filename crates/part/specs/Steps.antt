@@ -5,7 +5,7 @@ use Rattle.std.proofs.Math.Path.{ap, subst}
 use Rattle.std.proofs.Math.ListN.{length}
 use Rattle.std.proofs.Math.Seq.{sets}
 use Rattle.temporal.specs.Ticket as temporal
-use Rattle.temporal.specs.Ticket.{Window, origin}
+use Rattle.temporal.specs.Ticket.{origin}
 use Rattle.temporal.specs.Distance.{consistent}
 use Rattle.temporal.specs.Run.{Valid}
 use Rattle.network.specs.Stored.{at}

@@ -1,7 +1,7 @@
 -- What 02's change 3 says of the call, of any bytes: it is refused exactly where a cause applies, under the number of the first (`after_refusal`), with the
 -- output as it was (`after_leaves`); otherwise the output holds the working entries of the ticket (`after_worked`), which are the shortest paths by the stops
 -- taken, and after all stops what the table of distances writes. Rests on After and Meant.
-use Rattle.std.specs.Prelude.{◌≡◌, List, [], ℕ, ◌+◌, ◌*◌, ◌≤◌, ◌<◌, ℤ, pos, length, get_or}
+use Rattle.std.specs.Prelude.{◌≡◌, List, ℕ, ◌+◌, ◌*◌, ◌≤◌, ◌<◌, ℤ, pos, length, get_or}
 use Rattle.temporal.specs.Ticket.{Ticket, events, Schedule}
 use Rattle.temporal.specs.Table.{filled}
 use Rattle.ticket.specs.Parser.{Cause, number, refused, wholly}
