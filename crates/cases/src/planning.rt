@@ -67,7 +67,7 @@ fn windows(rt: &impl Print, record: &[u8], end: usize) -> io::Result<()>
 }
 
 // Whether an accepted record begins with the ticket of `given`, and then has as many windows as that has events, and five counts.
-fn begins(a: Answer, given: &[u8], out: &[u8]) -> bool {
+fn begins(a: &Answer, given: &[u8], out: &[u8]) -> bool {
     let n = script::two(out, 4);
     let end = script::least(a.length, 2048);
     let back = 14 + 9 * n as usize;
@@ -84,7 +84,7 @@ fn begins(a: Answer, given: &[u8], out: &[u8]) -> bool {
 }
 
 // Whether the output past the record, and scratch, are as they must be.
-fn left(a: Answer, out: &[u8], scratch: &[u32]) -> bool {
+fn left(a: &Answer, out: &[u8], scratch: &[u32]) -> bool {
     if lent::written(lent::part(out, a.length), out) {
         return lent::is_cleared(a.number, scratch);
     }
@@ -92,14 +92,14 @@ fn left(a: Answer, out: &[u8], scratch: &[u32]) -> bool {
 }
 
 // Whether all is right: `given` is the ticket planned, or the record committed to.
-fn right(a: Answer, given: &[u8], out: &[u8], scratch: &[u32]) -> bool {
+fn right(a: &Answer, given: &[u8], out: &[u8], scratch: &[u32]) -> bool {
     if begins(a, given, out) {
         return left(a, out, scratch);
     }
     false
 }
 
-fn show(rt: &impl Print, a: Answer, out: &[u8]) -> io::Result<()> {
+fn show(rt: &impl Print, a: &Answer, out: &[u8]) -> io::Result<()> {
     print::number(rt, a.number)?;
     print::length(rt, a.length)?;
     print::number(rt, a.total)?;
@@ -113,7 +113,7 @@ fn show(rt: &impl Print, a: Answer, out: &[u8]) -> io::Result<()> {
 fn report(
     rt: &impl Print,
     letter: u8,
-    a: Answer,
+    a: &Answer,
     input: &[u8],
     record: &[u8],
     out: &[u8],
@@ -140,7 +140,7 @@ fn call_in(
     let n = script::least(s.out, out.len());
     let m = script::least(s.scratch, scratch.len());
     let a = answer(letter, input, record, &mut out[..n], &mut scratch[..m]);
-    report(rt, letter, a, input, record, out, scratch)?;
+    report(rt, letter, &a, input, record, out, scratch)?;
     Ok(a.length)
 }
 
