@@ -6,13 +6,19 @@ use Rattle.mend.specs.Steps.{meets_refused, ticket_misread, ticket_mended}
 use Rattle.mend.proofs.mend.Goals as goal
 
 pub returns-then-out-lt-TICKET_BYTES : goal.returns-then-out-lt-TICKET_BYTES
-returns-then-out-lt-TICKET_BYTES c = let a = c.args in let whole = (meets_refused (mending_short_out a.ticket.now a.out.now a.list.now (omega arith)) c.refusal.ensures) in record { value = whole.0; out_after = whole.1.0; list_after = whole.1.1 }
+returns-then-out-lt-TICKET_BYTES c = let a = c.args in
+    let whole = meets_refused (mending_short_out a.ticket.now a.out.now a.list.now (omega arith)) c.refusal.ensures in
+    record { value = whole.0; out_after = whole.1.0; list_after = whole.1.1 }
 
 pub returns-then-list-lt-LIST_BYTES : goal.returns-then-list-lt-LIST_BYTES
-returns-then-list-lt-LIST_BYTES c = let a = c.args in let whole = (meets_refused (mending_short_list a.ticket.now a.out.now a.list.now (omega arith) (omega arith)) c.refusal-then-list-lt-LIST_BYTES.ensures) in record { value = whole.0; out_after = whole.1.0; list_after = whole.1.1 }
+returns-then-list-lt-LIST_BYTES c = let a = c.args in
+    let whole = meets_refused (mending_short_list a.ticket.now a.out.now a.list.now (omega arith) (omega arith)) c.refusal-then-list-lt-LIST_BYTES.ensures in
+    record { value = whole.0; out_after = whole.1.0; list_after = whole.1.1 }
 
 pub returns-then-read-ne0 : goal.returns-then-read-ne0
-returns-then-read-ne0 c = let a = c.args in let whole = (ticket_misread a.ticket.now a.out.now a.list.now (omega arith) (omega arith) c.read_ticket-read.ensures c.if-read-ne0.true c.refusal-then-read-ne0.ensures) in record { value = whole.0; out_after = whole.1.0; list_after = whole.1.1 }
+returns-then-read-ne0 c = let a = c.args in
+    let whole = ticket_misread a.ticket.now a.out.now a.list.now (omega arith) (omega arith) c.read_ticket-read.ensures c.if-read-ne0.true c.refusal-then-read-ne0.ensures in
+    record { value = whole.0; out_after = whole.1.0; list_after = whole.1.1 }
 
 pub write_mended-requires : goal.write_mended-requires
 write_mended-requires c = let a = c.args in (
@@ -23,4 +29,6 @@ write_mended-requires c = let a = c.args in (
 )
 
 pub returns : goal.returns
-returns c = let a = c.args in let whole = (ticket_mended a.ticket.now a.out.now a.list.now (omega arith) (omega arith) c.read_ticket-read.ensures c.if-read-ne0.false (c.write_mended.ensures.value, (c.write_mended.ensures.out_after, c.write_mended.ensures.list_after))) in record { value = whole.0; out_after = whole.1.0; list_after = whole.1.1 }
+returns c = let a = c.args in
+    let whole = ticket_mended a.ticket.now a.out.now a.list.now (omega arith) (omega arith) c.read_ticket-read.ensures c.if-read-ne0.false (c.write_mended.ensures.value, (c.write_mended.ensures.out_after, c.write_mended.ensures.list_after)) in
+    record { value = whole.0; out_after = whole.1.0; list_after = whole.1.1 }

@@ -36,5 +36,7 @@ overflow_add-result-3 c = omega (arith, (few (goal.at.overflow_add-result-3 c).A
 
 pub returns : goal.returns
 returns c = let a = c.args in
-    let m = c.mend_ticket-m in let whole = (mended_written (content a.t) c.requires.0 m.result m.ensures.ticket_value m.ensures.numbers_value a.out.now a.list.now c.requires.1 c.requires.2
-    c.put_ticket.ensures c.put_numbers.ensures) in record { value = whole.0; out_after = whole.1.0; list_after = whole.1.1 }
+    let m = c.mend_ticket-m in
+    let whole = mended_written (content a.t) c.requires.0 m.result m.ensures.ticket_value m.ensures.numbers_value a.out.now a.list.now c.requires.1 c.requires.2
+    c.put_ticket.ensures c.put_numbers.ensures in
+    record { value = whole.0; out_after = whole.1.0; list_after = whole.1.1 }

@@ -19,7 +19,9 @@ is-part c = c.plan_part-p.ensures.part (not-false _ c.if-not-p.false)
 
 pub returns-then-not-p : goal.returns-then-not-p
 returns-then-not-p c = let a = c.args in
-    let none = not-true _ c.if-not-p.true in let whole = (meets_refused (parted_none a.device (content a.t) a.out.now (sym c.plan_part-p.ensures.found_value ∙ none)) c.refusal.ensures) in record { value = whole.0; out_after = whole.1 }
+    let none = not-true _ c.if-not-p.true in
+    let whole = meets_refused (parted_none a.device (content a.t) a.out.now (sym c.plan_part-p.ensures.found_value ∙ none)) c.refusal.ensures in
+    record { value = whole.0; out_after = whole.1 }
 
 pub put_events-requires : goal.put_events-requires
 put_events-requires c = let I = is-part (goal.at.put_events-requires c).Else-not-p in
@@ -28,6 +30,8 @@ put_events-requires c = let I = is-part (goal.at.put_events-requires c).Else-not
 pub returns : goal.returns
 returns c = let a = c.args in
     let p = c.plan_part-p.result in
-    let I = is-part (goal.at.returns c).Else-not-p in let whole = (part_written (content a.t) c.requires.0 a.device I a.out.now c.requires.1 (sym c.plan_part-p.ensures.found_value ∙ I.found)
+    let I = is-part (goal.at.returns c).Else-not-p in
+    let whole = part_written (content a.t) c.requires.0 a.device I a.out.now c.requires.1 (sym c.plan_part-p.ensures.found_value ∙ I.found)
     (c.put_events.ensures
-    ∙ ap (λ o. sets o 2 (each write_numbered (firsts p.events (numbered_in p.points p.opens p.closes)))) c.put_u16.ensures)) in record { value = whole.0; out_after = whole.1 }
+    ∙ ap (λ o. sets o 2 (each write_numbered (firsts p.events (numbered_in p.points p.opens p.closes)))) c.put_u16.ensures) in
+    record { value = whole.0; out_after = whole.1 }

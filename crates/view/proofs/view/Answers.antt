@@ -6,18 +6,26 @@ use Rattle.view.specs.Steps.{meets_refused, record_misread, record_viewed}
 use Rattle.view.proofs.view.Goals as goal
 
 pub returns-then-out-lt-VIEW_BYTES : goal.returns-then-out-lt-VIEW_BYTES
-returns-then-out-lt-VIEW_BYTES c = let a = c.args in let whole = (meets_refused (viewing_short a.record.now a.caller a.out.now (omega arith)) c.refusal.ensures) in record { value = whole.0; out_after = whole.1 }
+returns-then-out-lt-VIEW_BYTES c = let a = c.args in
+    let whole = meets_refused (viewing_short a.record.now a.caller a.out.now (omega arith)) c.refusal.ensures in
+    record { value = whole.0; out_after = whole.1 }
 
 pub returns-then-caller-ge-DEVICES : goal.returns-then-caller-ge-DEVICES
-returns-then-caller-ge-DEVICES c = let a = c.args in let whole = (meets_refused (viewing_unknown a.record.now a.caller a.out.now (omega arith) (omega arith)) c.refusal-then-caller-ge-DEVICES.ensures) in record { value = whole.0; out_after = whole.1 }
+returns-then-caller-ge-DEVICES c = let a = c.args in
+    let whole = meets_refused (viewing_unknown a.record.now a.caller a.out.now (omega arith) (omega arith)) c.refusal-then-caller-ge-DEVICES.ensures in
+    record { value = whole.0; out_after = whole.1 }
 
 pub returns-then-read-ne0 : goal.returns-then-read-ne0
-returns-then-read-ne0 c = let a = c.args in let whole = (record_misread a.record.now a.caller a.out.now (omega arith) (omega arith) c.read_record-read.ensures c.if-read-ne0.true c.refusal-then-read-ne0.ensures) in record { value = whole.0; out_after = whole.1 }
+returns-then-read-ne0 c = let a = c.args in
+    let whole = record_misread a.record.now a.caller a.out.now (omega arith) (omega arith) c.read_record-read.ensures c.if-read-ne0.true c.refusal-then-read-ne0.ensures in
+    record { value = whole.0; out_after = whole.1 }
 
 pub write_view-requires : goal.write_view-requires
 write_view-requires c = let a = c.args in
     (read_canonical a.record.now c.read_record-read.ensures c.if-read-ne0.false (λ i. omega (arith, c.type_inv.record i)), omega arith)
 
 pub returns : goal.returns
-returns c = let a = c.args in let whole = (record_viewed a.record.now a.caller a.out.now (omega arith) (omega arith) c.read_record-read.ensures c.if-read-ne0.false
-    (λ i. omega (arith, c.type_inv.record i)) (c.write_view.ensures.value, c.write_view.ensures.out_after)) in record { value = whole.0; out_after = whole.1 }
+returns c = let a = c.args in
+    let whole = record_viewed a.record.now a.caller a.out.now (omega arith) (omega arith) c.read_record-read.ensures c.if-read-ne0.false
+    (λ i. omega (arith, c.type_inv.record i)) (c.write_view.ensures.value, c.write_view.ensures.out_after) in
+    record { value = whole.0; out_after = whole.1 }

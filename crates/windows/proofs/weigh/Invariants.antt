@@ -1,3 +1,4 @@
+-- The invariant: the first i events have their weights.
 use Prim.Native.Nat.{◌-◌, ◌≤◌}
 use Rattle.windows.specs.Weights.{Weighs}
 use Rattle.windows.proofs.weigh.Given as goal
