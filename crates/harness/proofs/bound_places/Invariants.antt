@@ -1,3 +1,4 @@
+-- `harness::bound_places` meets its contract. The invariant: the first i places hold the first i numbers. Assumes nothing.
 use Prim.Native.Nat.{◌-◌, ◌≤◌}
 use mathlib.Core.Path.{◌≡◌}
 use lib.IntN.{pos}
