@@ -12,7 +12,7 @@
 --   such list: `printed_ring`; its points and rules are all different: `ring_points`, `ring_differ`; it has at most 41 rules: `ring_valid`. A ring of the
 --   fewest rules can be started at its lowest number in one way only: `started_once`. Where a schedule exists it is []: `ring_none`, `fewest_zero` (Printed).
 --   For the code: the least cost of a walk of r rules is attained and the least, and is found by rounds over the rules: `walks_least`, `walks_attained`,
---   `Walks-more`, `walks_ring` (Costs). The ring is found rule by rule: `shortest_fewest`, `ring_greedy`, `ring_found`; one step of the search:
+--   `walks_more`, `walks_ring` (Costs). The ring is found rule by rule: `shortest_fewest`, `ring_greedy`, `ring_found`; one step of the search:
 --   `starts_some`, `greedy_more`, `continues_some`, `rest_more` (Greedy).
 pub mod Order
 pub mod Turns
