@@ -1,11 +1,8 @@
 -- `harness::bound_places` meets its contract. The invariant: the first i places hold the first i numbers. Assumes nothing.
-use mathlib.Core.Path.{refl, ap, ◌∙◌}
-use native.Mathlib.Omega.{arith}
+use Rattle.std.proofs.Common.{refl, ap, ◌∙◌, arith, pos, set, get_or}
 use mir.Syntax.{w32}
 use mir.Val.{SFits}
 use mir.Facts.{to_z-of_z}
-use lib.IntN.{pos}
-use lib.ListN.{set, get_or}
 use Rattle.ticket.specs.Stored.{pad}
 use Rattle.harness.specs.Values.{placed_more, placed_all}
 use Rattle.harness.proofs.bound_places.Goals as goal

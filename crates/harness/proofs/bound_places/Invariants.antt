@@ -1,7 +1,5 @@
-use Prim.Native.Nat.{◌-◌, ◌≤◌}
-use mathlib.Core.Path.{◌≡◌}
-use lib.IntN.{pos}
-use lib.ListN.{take}
+-- `harness::bound_places` ends, and the first i places hold the first i numbers. Assumes nothing.
+use Rattle.std.proofs.Common.{◌-◌, ◌≤◌, ◌≡◌, pos, take}
 use Rattle.ticket.specs.Stored.{pad}
 use Rattle.harness.proofs.bound_places.Given as goal
 

@@ -1,7 +1,5 @@
 -- `harness::count_places` meets its contract. The invariant: the first i places hold the first i numbers. Assumes nothing.
-use mathlib.Core.Path.{refl, ap, ◌∙◌}
-use native.Mathlib.Omega.{arith}
-use lib.ListN.{set, get_or}
+use Rattle.std.proofs.Common.{refl, ap, ◌∙◌, arith, set, get_or}
 use Rattle.ticket.specs.Stored.{pad}
 use Rattle.harness.specs.Values.{placed_more}
 use Rattle.harness.proofs.count_places.Goals as goal

@@ -1,8 +1,5 @@
 -- `harness::harness_rewrite_ticket` meets its contract: what is read without a cause is written back as it came. Assumes nothing.
-use mathlib.Core.Path.{◌≡◌, sym, ap, ◌∙◌}
-use mathlib.Core.List.{[]}
-use native.Mathlib.Omega.{arith}
-use borrow.Author.Rules.{rules}
+use Rattle.std.proofs.Common.{◌≡◌, sym, ap, ◌∙◌, [], arith, rules}
 use Rattle.ticket.specs.Format.{read_ticket}
 use Rattle.ticket.specs.Writing.{writing}
 use Rattle.ticket.specs.Stored.{whole_ticket}

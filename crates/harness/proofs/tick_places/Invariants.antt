@@ -1,6 +1,5 @@
-use Prim.Native.Nat.{◌-◌, ◌≤◌}
-use mathlib.Core.Path.{◌≡◌}
-use lib.ListN.{take}
+-- `harness::tick_places` ends, and the first i places hold the first i numbers. Assumes nothing.
+use Rattle.std.proofs.Common.{◌-◌, ◌≤◌, ◌≡◌, take}
 use Rattle.ticket.specs.Stored.{pad}
 use Rattle.harness.proofs.tick_places.Given as goal
 

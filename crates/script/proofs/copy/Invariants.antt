@@ -1,3 +1,4 @@
+-- `script::copy` ends, and the output holds the bytes passed at its start. Assumes nothing.
 use Rattle.std.proofs.Common.{◌≡◌, ◌-◌, ◌≤◌, length}
 use Rattle.script.specs.Lent.{front}
 use Rattle.script.proofs.copy.Given as goal

@@ -1,3 +1,4 @@
+-- `script::lent::is_cleared` ends, and the numbers passed are what they must be. Assumes nothing.
 use Rattle.std.proofs.Common.{◌≡◌, ℕ, ◌-◌, ◌<◌, ◌≤◌, length, get_or}
 use Rattle.script.specs.Lent.{left_at}
 use Rattle.script.proofs.lent.is_cleared.Given as goal
