@@ -2,5 +2,6 @@
 pub mod View
 pub mod Laws
 pub mod Viewed
+pub mod States
 pub mod Noninterference
 pub mod Examples
