@@ -12,13 +12,12 @@ use Rattle.temporal.proofs.Ends.{fits_fit, fit_fits}
 use Rattle.temporal.specs.Best.{best, best_latest, Chosen}
 use Rattle.temporal.proofs.Best.{chosen_best, chosen_under}
 use Rattle.temporal.specs.Distance.{consistent}
-use Rattle.temporal.proofs.Distance.{consistent_same}
 use Rattle.temporal.specs.Plan.{refused, accepted, planned, plan, planned_latest, plan_latest}
 use Rattle.temporal.proofs.FitSets.{fits_closed}
 use Rattle.temporal.specs.Run.{ValidRule, Valid}
 use Rattle.temporal.proofs.RunHolds.{planned_chosen}
 use Rattle.mirror.specs.Mirror.{mirror_bound, mirror_rule, mirror, mirror_windows, ProperRule, Proper}
-use Rattle.mirror.proofs.Mirror.{proper_distinct, proper_mirror}
+use Rattle.mirror.proofs.Mirror.{proper_distinct, proper_mirror, consistent_same}
 use Rattle.mirror.proofs.Mirror.{signs_plus, signs_minus, consistent_mirror}
 use Rattle.mirror.proofs.LatestMirror.{latest_mirror}
 use Rattle.mirror.specs.Cut.{Possible, cut, cut_bound, cut_mirror, cut_mirror_bound, cut_rule, minℤ, turned_back}

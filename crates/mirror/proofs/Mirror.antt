@@ -11,7 +11,7 @@ use Rattle.temporal.specs.Ticket.{Rule, Ticket, events, Distinct, time, Schedule
 use Rattle.temporal.specs.Ends.{Ends}
 use Rattle.temporal.proofs.Ends.{ends_fit, fit_ends}
 use Rattle.temporal.specs.Distance.{consistent}
-use Rattle.temporal.proofs.Distance.{consistent_same}
+use Rattle.temporal.proofs.Distance.{consistent_has}
 use Rattle.mirror.specs.Mirror.{Proper, ProperRule, mirror, mirror_bound, mirror_rule, mirror_ticks, mirror_window, mirror_windows}
 
 pub proper_distinct : (k : Ticket) → Proper k → Distinct k
@@ -133,6 +133,19 @@ schedule_iff k p ts a = (
   schedule_mirror k p ts,
   λ s. subst₂ Schedule (mirror_twice k) (ticks_twice k.horizon ts a) (schedule_mirror (mirror k) (proper_mirror k p) (mirror_ticks k.horizon ts) s),
 )
+
+iff_same : (a b : Bool) → (T a → T b) → (T b → T a) → a ≡ b
+iff_same true true f g = refl
+iff_same true false f g = absurd (f tt)
+iff_same false true f g = absurd (g tt)
+iff_same false false f g = refl
+
+-- two tickets of which one has a schedule if the other has
+pub consistent_same : (k l : Ticket) → ((ts : List ℕ) → Schedule k ts → (us : List ℕ) × Schedule l us) → ((ts : List ℕ) → Schedule l ts → (us : List ℕ) × Schedule k us)
+    → consistent k ≡ consistent l
+consistent_same k l f g = iff_same (consistent k) (consistent l)
+    (λ t. (consistent_has l).1 (f ((consistent_has k).0 t).0 ((consistent_has k).0 t).1))
+    (λ t. (consistent_has k).1 (g ((consistent_has l).0 t).0 ((consistent_has l).0 t).1))
 
 pub consistent_mirror : (k : Ticket) → Proper k → consistent (mirror k) ≡ consistent k
 consistent_mirror k p = consistent_same (mirror k) k
