@@ -1443,7 +1443,7 @@ done <<'ARRAYS'
 as they are|crates.txt||
 401 bytes below plan|crates/edge/src/lib.rt|$a const WIDE: [u8; 401] = [0u8; 401];|crates/edge/src/lib.rt:[0-9]*: an array of 401 numbers, above 400
 401 bytes beside plan|crates/part_network/src/lib.rt|$a const WIDE: [u8; 401] = [0u8; 401];|
-a parameter of 401 bytes|crates/lift/src/lib.rt|s/queue: &mut \[u8; 400\],/queue: \&mut [u8; QUEUE + 1],/|crates/lift/src/lib.rt:[0-9]*: an array of 401 numbers, above 400
+a parameter of 401 bytes|crates/ticket/src/lib.rt|s/owners: &\[u8; Ticket::EVENTS\],/owners: \&[u8; Ticket::EVENTS + 361],/|crates/ticket/src/lib.rt:[0-9]*: an array of 401 numbers, above 400
 20 arrays of 21 numbers|crates/flow/src/lib.rt|s/let none = \[0u32; 81\];/&let more = [[0u32; 21]; 20];/|crates/flow/src/lib.rt:[0-9]*: an array whose size is not told
 a size that is not told|crates/flow/src/lib.rt|s/let none = \[0u32; 81\];/&let more = [0u32; MORE];/|crates/flow/src/lib.rt:[0-9]*: an array whose size is not told
 a comment and a contract|crates/edge/src/lib.rt|s/^    requires \([a-z0-9_]* \)\?{.*/&  requires { [0; 500] } \/\/ [0u32; 500]/|

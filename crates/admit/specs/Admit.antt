@@ -1,15 +1,16 @@
 -- Adding one demand to a network with no flow, by a lift or by a search. Where no flow runs, a search from node a that ends at node b leaves a potential that has b as low
 -- against a as any potential has it: the links from b to a are edges with no slack.
-use Rattle.std.specs.Prelude.{ℕ, zero, suc, ◌+◌, ◌*◌, ◌-◌, ◌≤◌, ◌<◌, ◌≡◌, Bool, true, false, List, length, set, replicate}
+use Rattle.std.specs.Prelude.{ℕ, zero, suc, ◌+◌, ◌*◌, ◌-◌, ◌≤◌, ◌<◌, ◌≡◌, refl, Bool, true, false, Option, Some, None, List, Ok, Err, length, set, replicate}
 use Rattle.std.proofs.Common.{sym, ap, ◌∙◌, arith, lt-suc_self, get_or-set_other}
 use Rattle.std.proofs.Math.Logic.{by_cases}
-use Rattle.std.proofs.Math.Decide.{ℕ_discrete, dec_lt}
-use Rattle.network.specs.Lists.{differ, by_zero, zeros_at}
+use Rattle.std.proofs.Math.Decide.{ℕ_discrete}
+use Rattle.network.specs.Lists.{differ, zeros_at}
 use Rattle.network.specs.Network.{Meets}
 use Rattle.network.specs.Stored.{at, tail_of, head_of, flow_of, stored}
 use Rattle.network.specs.Edges.{Extends, Put}
 use Rattle.network.specs.Index.{end_tail, index_link, listing_fits}
 use Rattle.search.specs.Tree.{Reached}
+use Rattle.lift.specs.declared.Unmet.TheVariants.{Ring}
 use Rattle.lift.specs.Lift.{Lifts}
 use Rattle.network.specs.Grow.{Growing, Impossible, extends_meets, flowless_more}
 
@@ -19,7 +20,7 @@ extends_impossible x a b c h q meets = h q (λ e l. extends_meets x q e l (meets
 
 -- ---- as near as the edges allow
 
-module _ {net : List ℕ} {m nodes : ℕ} {pot stamp via : List ℕ} {root : ℕ} {goal : List ℕ} {r : ℕ} (R : Reached net m nodes pot stamp via root goal r) where
+module _ {net : List ℕ} {m nodes : ℕ} {pot stamp via : List ℕ} {root : ℕ} {goal : List ℕ} {r : Option ℕ} (R : Reached net m nodes pot stamp via root goal r) where
   -- By induction on a bound of the stamps.
   chained : ((e : ℕ) → e < m → flow_of net e ≡ 0) → (q : ℕ → ℕ) → ((e : ℕ) → e < m → Meets (stored 0 0 net) q e)
       → (s v : ℕ) → at stamp v < s → v < nodes → 0 < at stamp v → q root + at pot v ≤ q v + at pot root
@@ -52,36 +53,36 @@ module _ {net : List ℕ} {m nodes : ℕ} {pot tails heads : List ℕ} (G : Grow
   pub approached_now : {a b c : ℕ} → at pot b + 1000000 ≤ at pot a + c → Approached net m nodes pot tails heads a b c
   approached_now d = record { growing = G; far = λ l. absurd (omega arith) }
 
-  -- by a lift
-  pub approached_lift : {pot' : List ℕ} {a b c r : ℕ} → Lifts net m nodes pot pot' a b c r → r < 2 → Approached net m nodes pot' tails heads a b c
-  approached_lift {pot'} {r = r} L l = by_zero r
-      (λ z.
-      record {
-        growing =
-            record {
-              flowless =
-                  record {
-                    network = G.flowless.network;
-                    potential =
-                        record {
-                          long = L.long z;
-                          origin = L.origin z;
-                          feasible = L.feasible z;
-                          tight = λ e le p. absurd (omega (arith, G.flowless.flows e le, p));
-                        };
-                    flows = G.flowless.flows;
-                  };
-              by_tail = G.by_tail;
-              by_head = G.by_head;
-            };
-        far = λ k. absurd (omega (arith, k, L.held z));
-      })
-      (λ p. record { growing = rw (L.kept (λ z. omega (arith, p, z))) G; far = λ k. L.impossible (omega (arith, p, l)) })
+  -- by a lift that meets the demand, or finds that it is impossible
+  pub approached_lift : {pot' : List ℕ} {a b c : ℕ} → Lifts net m nodes pot pot' a b c (Ok tt) → Approached net m nodes pot' tails heads a b c
+  approached_lift L = record {
+    growing =
+        record {
+          flowless =
+              record {
+                network = G.flowless.network;
+                potential =
+                    record {
+                      long = L.long refl;
+                      origin = L.origin refl;
+                      feasible = L.feasible refl;
+                      tight = λ e le p. absurd (omega (arith, G.flowless.flows e le, p));
+                    };
+                flows = G.flowless.flows;
+              };
+          by_tail = G.by_tail;
+          by_head = G.by_head;
+        };
+    far = λ k. absurd (omega (arith, k, L.held refl));
+  }
+
+  pub approached_ring : {pot' : List ℕ} {a b c : ℕ} → Lifts net m nodes pot pot' a b c (Err Ring) → Approached net m nodes pot' tails heads a b c
+  approached_ring L = record { growing = rw (L.kept (λ z. absurd cc)) G; far = λ k. L.impossible refl }
 
   -- by a search from a with the one goal b
-  pub approached_search : {pot' stamp via : List ℕ} (a b c : ℕ) {r : ℕ} → Reached net m nodes pot' stamp via a (set (replicate 81 0) b 1) r → b < nodes
+  pub approached_search : {pot' stamp via : List ℕ} (a b c : ℕ) {r : Option ℕ} → Reached net m nodes pot' stamp via a (set (replicate 81 0) b 1) r → b < nodes
       → Approached net m nodes pot' tails heads a b c
-  approached_search {pot'} {stamp} a b c {r} R lb =
+  approached_search {pot'} {stamp} {via} a b c {r} R lb =
       record {
         growing =
             record {
@@ -89,16 +90,15 @@ module _ {net : List ℕ} {m nodes : ℕ} {pot tails heads : List ℕ} (G : Grow
               by_tail = G.by_tail;
               by_head = G.by_head;
             };
-        far = λ l q meets. omega (arith, chained R G.flowless.flows q meets (suc (at stamp b)) b (lt-suc_self (at stamp b)) lb found);
+        far = λ l q meets. omega (arith, chained R G.flowless.flows q meets (suc (at stamp b)) b (lt-suc_self (at stamp b)) lb (found r R));
       }
     where
-      found : 0 < at stamp b
-      found =
-          by_cases (dec_lt r nodes)
-          (λ l. by_cases (ℕ_discrete r b)
-          (λ q. rw q at (R.found l).0)
-          (λ q. absurd (omega (arith, (R.found l).1, get_or-set_other {A = ℕ} (replicate 81 0) b r 1 0 q, zeros_at 81 r))))
-          (λ x. (R.all (omega arith) b lb).0)
+      found : (r : Option ℕ) → Reached net m nodes pot' stamp via a (set (replicate 81 0) b 1) r → 0 < at stamp b
+      found (Some v) R =
+          by_cases (ℕ_discrete v b)
+          (λ q. rw q at R.found.1)
+          (λ q. absurd (omega (arith, R.found.2, get_or-set_other {A = ℕ} (replicate 81 0) b v 1 0 q, zeros_at 81 v)))
+      found None R = (R.all b lb).0
 
 -- what `admit` asks of the edge, and of the lists that it is put into
 pub record Admissible (net : List ℕ) (m nodes : ℕ) (tails heads : List ℕ) (a b c : ℕ) : Type 0 where

@@ -3,11 +3,35 @@
 
 #![tactic(auto)]
 
-ghost use Rattle.std.specs.Prelude.{◌<◌, ◌≤◌};
+ghost use Rattle.std.specs.Prelude.{ℕ, ◌<◌, ◌≤◌};
 ghost use Rattle.network.specs.Grow.{Growing};
 ghost use Rattle.admit.specs.Admit.{Approached, Admissible, Admits};
 
-use network::BIAS;
+use lift::Unmet;
+use network::{BIAS, ByHead};
+use search::Trail;
+
+// Move the potential as far towards a demand of an edge from a to b as the edges allow, by a search. It stands apart, so that only where a search is made
+// its room is cleared.
+fn seek(
+    net: &[u32],
+    m: usize,
+    nodes: usize,
+    tails: &[u32],
+    heads: &[u32],
+    pot: &mut [u32; 81],
+    a: usize,
+    b: usize,
+)
+    requires growing { Growing net.now m nodes pot.old tails.now heads.now }
+    requires a_lt_nodes { (a < nodes) × (b < nodes) }
+    ensures { (c : ℕ) → Approached net.now m nodes pot.new tails.now heads.now a b c }
+{
+    let mut trail = Trail::new();
+    let mut goal = [0u32; 81];
+    goal[b] = 1;
+    search::reach(net, m, nodes, tails, heads, pot, &mut trail, a, &goal);
+}
 
 // Where the demand of an edge from a to b at the biased cost c fails, move the potential as far towards it as the edges allow.
 fn approach(
@@ -28,16 +52,15 @@ fn approach(
     if pot[b] + BIAS <= pot[a] + c {
         return;
     }
-    if lift::lift(net, m, nodes, heads, pot, a, b, c) < 2 {
-        return;
+    let edges = ByHead {
+        net,
+        m,
+        nodes,
+        list: heads,
+    };
+    if let Err(Unmet::GivenUp) = lift::lift(&edges, pot, a, b, c) {
+        seek(net, m, nodes, tails, heads, pot, a, b);
     }
-    let mut stamp = [0usize; 81];
-    let mut via = [0usize; 81];
-    let mut goal = [0u32; 81];
-    goal[b] = 1;
-    search::reach(
-        net, m, nodes, tails, heads, pot, &mut stamp, &mut via, a, &goal,
-    );
 }
 
 // Store edge m from a to b at the biased cost c. Admit it to the network, with the potential moved as need be, if some potential meets its demand and those of the edges before it.

@@ -1,5 +1,6 @@
 // The nine functions that a host program in C calls: planning, the latest plan and commitment on numbers and byte slices, what a device sees of a record, the table
 // of distances, that table after some of its stops, the reason why a ticket is impossible, the mended ticket, and one device's part.
+// They answer numbers, and store what else there is through references, as C takes it; those that are alike but for the call are C's too.
 // The first three hold the scratch that crate `plan` works in, so that number 10 says that the output is too short. Nobody sees it, so it is not cleared.
 
 #![tactic(auto)]
@@ -16,13 +17,6 @@ ghost use Rattle.viewing.specs.View.{viewing};
 
 use ticket::RECORD_BYTES;
 
-// The scratch of a call; as a call's result it is no list of 1,824 literals in the proofs.
-fn scratch() -> [u32; 1824]
-    ensures { length result ≡ 1824 }
-{
-    [0u32; 1824]
-}
-
 // The record of the plan of a ticket, at the start of `out`. The answer is 0, or the number of the first cause to refuse.
 #[unsafe(no_mangle)]
 pub extern "C" fn beyunlak_plan(ticket: &[u8], out: &mut [u8]) -> u32
@@ -32,9 +26,9 @@ pub extern "C" fn beyunlak_plan(ticket: &[u8], out: &mut [u8]) -> u32
     if out.len() < RECORD_BYTES {
         return 10;
     }
-    let mut lent = scratch();
+    let mut lent = [0u32; 1824];
     let planned = plan::plan_bytes(ticket, false, out, &mut lent);
-    planned.number
+    ticket::answer_number(&planned)
 }
 
 // The record of the latest plan of a ticket, at the start of `out`. The answer is 0, or the number of the first cause to refuse.
@@ -46,9 +40,9 @@ pub extern "C" fn beyunlak_plan_latest(ticket: &[u8], out: &mut [u8]) -> u32
     if out.len() < RECORD_BYTES {
         return 10;
     }
-    let mut lent = scratch();
+    let mut lent = [0u32; 1824];
     let latest = plan::plan_bytes(ticket, true, out, &mut lent);
-    latest.number
+    ticket::answer_number(&latest)
 }
 
 // The record after the device `caller` commits its event to `open` to `close`, at the start of `out`. The answer is 0, or the number of the first cause to refuse.
@@ -67,9 +61,9 @@ pub extern "C" fn beyunlak_commit(
     if out.len() < RECORD_BYTES {
         return 10;
     }
-    let mut lent = scratch();
+    let mut lent = [0u32; 1824];
     let committed = plan::commit_bytes(record, caller, event, open, close, out, &mut lent);
-    committed.number
+    ticket::answer_number(&committed)
 }
 
 // What the device `caller` sees of a record: its events with their flags and windows, after their count, at the start of `out`. The answer is 0, or the number of the
@@ -80,7 +74,7 @@ pub extern "C" fn beyunlak_view(record: &[u8], caller: u32, out: &mut [u8]) -> u
     ensures out_after { out.new ≡ (viewing «record».now caller out.old).out }
 {
     let viewed = view::view(record, caller, out);
-    viewed.number
+    ticket::answer_number(&viewed)
 }
 
 // The table of distances of a session, row by row, at the start of `out`. The answer is 0, or the number of the first cause to refuse.
@@ -93,7 +87,7 @@ pub extern "C" fn beyunlak_table(
 ) -> u32
     ensures { (result, out.new) ≡ table_of horizon events (map rule_of rules.now) out.old }
 {
-    table::table(horizon, events, rules, out)
+    ticket::answer_number(&table::table(horizon, events, rules, out))
 }
 
 // The working table of a ticket after the first `stops` of its stops, row by row, at the start of `out`. The answer is 0, or the number of the first cause to
@@ -102,7 +96,7 @@ pub extern "C" fn beyunlak_table(
 pub extern "C" fn beyunlak_table_after(ticket: &[u8], stops: u32, out: &mut [i32]) -> u32
     ensures { (result, out.new) ≡ table_after ticket.now stops out.old }
 {
-    stops::table_after(ticket, stops, out)
+    ticket::answer_number(&stops::table_after(ticket, stops, out))
 }
 
 // Why a ticket has no schedule: the text of a ring of rules, at the start of `out`, with the names of the two lists. The answer is 0, or the number of the
@@ -120,8 +114,8 @@ pub extern "C" fn beyunlak_reason<'a>(
     ensures out_after { out.new ≡ (reasoning ticket.now labels.now roster.now out.old).out }
 {
     let explained = reason::reason(ticket, labels, roster, out);
-    *length = explained.length;
-    explained.number
+    *length = explained.unwrap_or(0);
+    ticket::answer_number(&explained)
 }
 
 // The mended ticket at the start of `out`, and the numbers of the dropped rules, after their count, at the start of `dropped`. The answer is 0, or the number of
@@ -133,7 +127,7 @@ pub extern "C" fn beyunlak_mend(ticket: &[u8], out: &mut [u8], dropped: &mut [u8
     ensures dropped_after { dropped.new ≡ (mending ticket.now out.old dropped.old).list }
 {
     let mended = mend::mend(ticket, out, dropped);
-    mended.number
+    ticket::answer_number(&mended)
 }
 
 // The events of one device and their windows in the plan of its part, after their count, at the start of `out`. The answer is 0, or the number of the first cause
@@ -144,5 +138,5 @@ pub extern "C" fn beyunlak_part(ticket: &[u8], device: u32, out: &mut [u8]) -> u
     ensures out_after { out.new ≡ (parting ticket.now device out.old).out }
 {
     let parted = part::part(ticket, device, out);
-    parted.number
+    ticket::answer_number(&parted)
 }

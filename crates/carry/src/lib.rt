@@ -10,13 +10,6 @@ ghost use Rattle.carry.specs.Carry.{Share, Wanted, Carried};
 
 use network::BIAS;
 
-// The event of a hi node, or 0.
-fn event(b: usize, n: usize) -> usize
-    ensures { result ≡ b - n }
-{
-    if n < b { b - n } else { 0 }
-}
-
 // What edge e can carry, of what its tail and the event of its head want: nothing, if it has slack.
 fn share(
     net: &[u32],
@@ -33,8 +26,8 @@ fn share(
     let b = net[p + 1] as usize;
     if edge::limit(net, pot, e) == pot[b] + BIAS {
         let a = net[p] as usize;
-        let j = event(b, n);
-        network::least(supply[a], demand[j])
+        let j = b.saturating_sub(n);
+        supply[a].min(demand[j])
     } else {
         0
     }
@@ -45,7 +38,7 @@ pub fn take(left: &mut [u32; 81], v: usize, f: u32)
     requires { (length left.old ≡ 81) × (v < 81) × (f ≤ at left.old v) }
     ensures { left.new ≡ set left.old v (at left.old v - f) }
 {
-    left[v] = left[v] - f;
+    left[v] -= f;
 }
 
 // Let edge e carry as much as its tail and the event of its head want, if it has no slack.
@@ -65,9 +58,8 @@ pub fn carry(
     if 0 < f {
         let p = 4 * e;
         let a = net[p] as usize;
-        let j = event(net[p + 1] as usize, n);
-        let q = p + 3;
-        net[q] = net[q] + f;
+        let j = (net[p + 1] as usize).saturating_sub(n);
+        net[p + 3] += f;
         take(supply, a, f);
         take(demand, j, f);
     }

@@ -4,56 +4,30 @@ ghost use Rattle.std.specs.Prelude.{◌≤◌, ◌≡◌, length};
 
 use script::{lent, print};
 use std::io;
+use ticket::Refusal;
 
-fn numbers() -> [i32; 1700]
-    ensures { 1700 ≡ length result }
-{
-    [7i32; 1700]
-}
-
-// The two's complement bits of x.
-fn bits(x: i32) -> u32 {
-    if 0 <= x {
-        x as u32
-    } else {
-        let k = -1 - x;
-        u32::MAX - (k as u32)
-    }
-}
-
-// One more than the last place with a number that has changed.
-fn changed(out: &[i32]) -> usize
-    ensures { result ≤ length out.now }
-{
-    let mut n = out.len();
-    while 0 < n {
-        if out[n - 1] != 7 {
-            return n;
-        }
-        n -= 1;
-    }
-    n
+// The numbers up to the last that has changed.
+fn changed(out: &[i32]) -> &[i32] {
+    let n = out.iter().rposition(|x| *x != 7).map_or(0, |k| k + 1);
+    &out[..n]
 }
 
 // Print a table: all numbers up to the last that has changed, which is a 0.
 fn show(rt: &impl Print, out: &[i32]) -> io::Result<()> {
-    let n = changed(out);
-    let mut i = 0;
-    while i < n {
-        print::signed(rt, bits(out[i]))?;
-        i += 1;
+    for x in changed(out) {
+        print::signed(rt, *x)?;
     }
     Ok(())
 }
 
 // The rules are as many as the shortest of the three slices has.
-fn answer(input: &[u8], out: &mut [i32]) -> u32 {
+fn answer(input: &[u8], out: &mut [i32]) -> Result<(), Refusal> {
     let mut from = lent::output();
     let mut to = lent::output();
-    let mut bound = numbers();
-    forms::spread(input, 12, 6, &mut from);
-    forms::spread(input, 13, 6, &mut to);
-    forms::spread_bounds(input, 14, &mut bound);
+    let mut bound = [7i32; 1700];
+    forms::spread(script::byte, input, 12, 6, &mut from);
+    forms::spread(script::byte, input, 13, 6, &mut to);
+    forms::spread(forms::bound_at, input, 14, 6, &mut bound);
     ask(
         input,
         lent::part(&from, script::four(input, 8) as usize),
@@ -63,7 +37,13 @@ fn answer(input: &[u8], out: &mut [i32]) -> u32 {
     )
 }
 
-fn ask(input: &[u8], from: &[u8], to: &[u8], bound: &[i32], out: &mut [i32]) -> u32 {
+fn ask(
+    input: &[u8],
+    from: &[u8],
+    to: &[u8],
+    bound: &[i32],
+    out: &mut [i32],
+) -> Result<(), Refusal> {
     table::table_of_slices(
         script::four(input, 0),
         script::four(input, 4),
@@ -74,14 +54,15 @@ fn ask(input: &[u8], from: &[u8], to: &[u8], bound: &[i32], out: &mut [i32]) -> 
     )
 }
 
-fn answer_in(input: &[u8], room: usize, out: &mut [i32]) -> u32 {
-    let n = script::least(room, out.len());
+fn answer_in(input: &[u8], room: usize, out: &mut [i32]) -> Result<(), Refusal> {
+    let n = room.min(out.len());
     answer(input, &mut out[..n])
 }
 
 pub fn table(rt: &impl Print, input: &[u8], room: usize) -> io::Result<()> {
-    let mut out = numbers();
-    print::number(rt, answer_in(input, room, &mut out))?;
+    let mut out = [7i32; 1700];
+    let answer = answer_in(input, room, &mut out);
+    print::number(rt, ticket::answer_number(&answer))?;
     show(rt, &out)?;
     print::end(rt, true)
 }

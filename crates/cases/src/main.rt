@@ -13,7 +13,8 @@ use script::lent::State;
 use script::{lent, print};
 use std::io;
 
-// Numbers of the calls `commit` and `lend` have four bytes where the script says nothing, those of others one.
+// Numbers of the calls `commit` and `lend` have four bytes where the script says nothing, those of others one. The script names its calls by letters; the matches on a letter,
+// here and in `planning`, are its parser.
 fn usual(letter: u8) -> usize {
     match letter {
         b'c' | b'l' => 4,
@@ -25,19 +26,15 @@ fn keep(rt: &impl Print, input: &[u8], kept: &mut [u8], s: State) -> io::Result<
     let n = script::copy(input, kept);
     print::length(rt, n)?;
     print::end(rt, true)?;
-    Ok(State {
-        kept: n,
-        out: s.out,
-        scratch: s.scratch,
-    })
+    Ok(State { kept: n, ..s })
 }
 
 fn lend(rt: &impl Print, input: &[u8], s: State) -> io::Result<State> {
     print::end(rt, true)?;
     Ok(State {
-        kept: s.kept,
         out: script::four(input, 0) as usize,
         scratch: script::four(input, 4) as usize,
+        ..s
     })
 }
 
@@ -99,6 +96,7 @@ fn run(rt: &impl Print, text: &[u8], kept: &mut [u8]) -> io::Result<()> {
         out: 2048,
         scratch: 8200,
     };
+    // line by line, and not by `split_inclusive`: in a function that is generic over its printer the prover does not accept that loop
     let mut at = 0;
     while at < text.len() {
         let end = script::after(text, at, b'\n');

@@ -2,10 +2,14 @@
 // Rests on crates `plan` and `script`.
 ghost use Rattle.std.specs.Prelude.{◌≤◌};
 
-use plan::Answer;
+use plan::Accepted;
 use script::lent::State;
 use script::{lent, print};
 use std::io;
+use ticket::Refusal;
+
+// What planning or a commitment answers.
+type Answer = Result<Accepted, Refusal>;
 
 // These two drop what the calls promise, so that what follows them costs no proof.
 fn plan_once(ticket: &[u8], out: &mut [u8], scratch: &mut [u32]) -> Answer {
@@ -42,10 +46,8 @@ fn window(rt: &impl Print, record: &[u8], at: usize) -> io::Result<()>
 fn counts(rt: &impl Print, record: &[u8], at: usize) -> io::Result<()>
     requires { at ≤ 3000 }
 {
-    let mut o = 0;
-    while o < 5 {
+    for o in 0..ticket::DEVICES {
         print::number(rt, script::two(record, at + 2 * o))?;
-        o += 1;
     }
     Ok(())
 }
@@ -54,80 +56,72 @@ fn counts(rt: &impl Print, record: &[u8], at: usize) -> io::Result<()>
 fn windows(rt: &impl Print, record: &[u8], end: usize) -> io::Result<()>
     requires { end ≤ 2048 }
 {
-    let back = 12 + 9 * script::two(record, 4) as usize;
+    let n = script::two(record, 4) as usize;
+    let back = 12 + 9 * n;
     if end < back {
         return Ok(());
     }
-    let mut at = end - back;
-    while at + 12 < end {
-        window(rt, record, at)?;
-        at += 9;
+    for i in 0..n {
+        window(rt, record, end - back + 9 * i)?;
     }
-    counts(rt, record, at + 2)
+    counts(rt, record, end - 10)
 }
 
-// Whether an accepted record begins with the ticket of `given`, and then has as many windows as that has events, and five counts.
-fn begins(a: &Answer, given: &[u8], out: &[u8]) -> bool {
+// Whether a record of some length begins with the ticket of `given`, and then has as many windows as that has events, and five counts.
+fn begins(length: usize, given: &[u8], out: &[u8]) -> bool {
     let n = script::two(out, 4);
-    let end = script::least(a.length, 2048);
+    let end = length.min(2048);
     let back = 14 + 9 * n as usize;
     if end < back {
-        return a.number != 0;
-    }
-    if script::two(out, end - back) != n {
         return false;
     }
-    if script::two(out, end - 12) != 5 {
-        return false;
-    }
-    lent::part(out, end - back) == lent::part(given, end - back)
+    script::two(out, end - back) == n
+        && script::two(out, end - 12) == 5
+        && lent::part(out, end - back) == lent::part(given, end - back)
 }
 
-// Whether the output past the record, and scratch, are as they must be.
-fn left(a: &Answer, out: &[u8], scratch: &[u32]) -> bool {
-    if lent::written(lent::part(out, a.length), out) {
-        return lent::is_cleared(a.number, scratch);
-    }
-    false
+// Whether all is right: `given` is the ticket planned, or the record committed to. What lies past the record, and scratch, are as they must be.
+fn right(answer: &Answer, given: &[u8], out: &[u8], scratch: &[u32]) -> bool {
+    let (begins, length) = match answer {
+        Ok(accepted) => (begins(accepted.length, given, out), accepted.length),
+        Err(_) => (true, 0),
+    };
+    begins
+        && lent::written(lent::part(out, length), out)
+        && lent::is_cleared(ticket::answer_number(answer), scratch)
 }
 
-// Whether all is right: `given` is the ticket planned, or the record committed to.
-fn right(a: &Answer, given: &[u8], out: &[u8], scratch: &[u32]) -> bool {
-    if begins(a, given, out) {
-        return left(a, out, scratch);
+fn show(rt: &impl Print, answer: &Answer, out: &[u8]) -> io::Result<()> {
+    print::number(rt, ticket::answer_number(answer))?;
+    match answer {
+        Ok(accepted) => {
+            print::length(rt, accepted.length)?;
+            print::number(rt, accepted.total)?;
+            windows(rt, out, accepted.length.min(2048))
+        }
+        Err(_) => {
+            print::length(rt, 0)?;
+            print::number(rt, 0)
+        }
     }
-    false
-}
-
-fn show(rt: &impl Print, a: &Answer, out: &[u8]) -> io::Result<()> {
-    print::number(rt, a.number)?;
-    print::length(rt, a.length)?;
-    print::number(rt, a.total)?;
-    if a.number == 0 {
-        windows(rt, out, script::least(a.length, 2048))?;
-    }
-    Ok(())
 }
 
 // After `plan` the record is compared with the input, after the other calls with the kept record.
 fn report(
     rt: &impl Print,
     letter: u8,
-    a: &Answer,
+    answer: &Answer,
     input: &[u8],
     record: &[u8],
     out: &[u8],
     scratch: &[u32],
 ) -> io::Result<()> {
-    show(rt, a, out)?;
-    if letter == b'p' {
-        print::end(rt, right(a, input, out, scratch))
-    } else {
-        print::end(rt, right(a, record, out, scratch))
-    }
+    show(rt, answer, out)?;
+    let given = if letter == b'p' { input } else { record };
+    print::end(rt, right(answer, given, out, scratch))
 }
 
-// One call with some of an output and of scratch lent; the length of the record, 0 for a refusal.
+// One call with some of an output and of scratch lent; the length of the record, if there is one.
 fn call_in(
     rt: &impl Print,
     letter: u8,
@@ -136,12 +130,12 @@ fn call_in(
     s: State,
     out: &mut [u8],
     scratch: &mut [u32],
-) -> io::Result<usize> {
-    let n = script::least(s.out, out.len());
-    let m = script::least(s.scratch, scratch.len());
-    let a = answer(letter, input, record, &mut out[..n], &mut scratch[..m]);
-    report(rt, letter, &a, input, record, out, scratch)?;
-    Ok(a.length)
+) -> io::Result<Option<usize>> {
+    let n = s.out.min(out.len());
+    let m = s.scratch.min(scratch.len());
+    let answer = answer(letter, input, record, &mut out[..n], &mut scratch[..m]);
+    report(rt, letter, &answer, input, record, out, scratch)?;
+    Ok(answer.ok().map(|accepted| accepted.length))
 }
 
 // One call; an accepted record is kept.
@@ -154,21 +148,12 @@ pub fn call(
 ) -> io::Result<State> {
     let mut out = lent::output();
     let mut scratch = lent::scratch();
-    let n = call_in(
-        rt,
-        letter,
-        input,
-        lent::part(kept, s.kept),
-        s,
-        &mut out,
-        &mut scratch,
-    )?;
-    if n == 0 {
-        return Ok(s);
+    let record = lent::part(kept, s.kept);
+    match call_in(rt, letter, input, record, s, &mut out, &mut scratch)? {
+        None => Ok(s),
+        Some(n) => Ok(State {
+            kept: script::copy(lent::part(&out, n), kept),
+            ..s
+        }),
     }
-    Ok(State {
-        kept: script::copy(lent::part(&out, n), kept),
-        out: s.out,
-        scratch: s.scratch,
-    })
 }

@@ -1,6 +1,6 @@
 -- A record that the code hands on is Canonical: what it says is readable, with zeros past its events in the arrays of windows and flags, and with five counts.
 -- What a struct says is `ticket`'s `content` and `state_of`; of its arrays alone `potentials` says it.
-use Rattle.std.specs.Prelude.{◌≡◌, Bool, true, false, List, ◌∷◌, map, ◌++◌, ℕ, zero, suc, ◌-◌, ◌≤◌, ◌<◌, ◌⊎◌, ◌≢◌, get_or, set}
+use Rattle.std.specs.Prelude.{◌≡◌, Bool, true, false, List, ◌∷◌, map, ◌++◌, ℕ, zero, suc, ◌-◌, ◌≤◌, ◌<◌, ◌⊎◌, get_or, set, Ok, Err}
 use Rattle.std.proofs.Math.Path.{refl, sym, ap}
 use Rattle.std.proofs.Common.{subst, ◌∙◌, arith, inl, inr, length-append, length-set, get_or-set_other}
 use Rattle.std.proofs.Math.ListN.{length, replicate, length-replicate, length-map}
@@ -15,17 +15,18 @@ use Rattle.network.specs.Lists.{zeros_at}
 use Rattle.ticket.proofs.Agree.{field_at, counts_all, state_stored}
 use Rattle.ticket.specs.Writing.{firsts, content, state_of, Storable}
 use Rattle.ticket.proofs.WritingLaws.{length_firsts, get_d_firsts}
-use Rattle.ticket.specs.Parser.{Cause, got, refused, number, wholly}
+use Rattle.ticket.specs.Parser.{Cause, got, refused, wholly}
 use Rattle.ticket.specs.Format.{read_state}
-use Rattle.ticket.proofs.Laws.{was_refused, was_got}
+use Rattle.ticket.specs.Refusal.{refusal}
+use Rattle.ticket.proofs.Refusals.{was_ok, was_err}
 use Rattle.ticket.specs.RoundTrip.{Bytes}
 use Rattle.ticket.proofs.RoundTrip.{written_read_state}
-use Rattle.ticket.specs.Stored.{pad, stored_state, planned, whole_record}
+use Rattle.ticket.specs.Stored.{pad, stored_state, whole_record}
 use Rattle.ticket.specs.Writer.{flag_byte}
 use Rattle.ticket.proofs.Content.{in_events, in_rules}
 use Rattle.potentials.specs.Arrays.{window_list, window_at_lem, Lie, Within}
 use Rattle.ticket.specs.declared.Record.{Record}
-use Rattle.ticket.specs.declared.ReadRecord.{ReadRecord}
+use Rattle.ticket.specs.declared.Refusal.{Refusal}
 
 -- ---- an array of 40 numbers, 0 past the first n
 
@@ -160,25 +161,26 @@ module _ (n : ℕ) (f : ℕ → ℕ) where
 -- ---- a record that was read
 
 -- what reading the bytes to their end answers
-module _ (bytes : List ℕ) {x : ReadRecord} (e : x ≡ whole_record bytes) where
-  -- the number of its cause,
-  pub read_refused : x.number ≢ 0 → (c : Cause) × (wholly read_state bytes ≡ refused c) × (x.number ≡ number c)
-  read_refused n = was_refused (λ (y : ReadRecord). y.number) (planned 0) (λ s t. refl) (λ c. refl) (wholly read_state bytes) x e n
+module _ (bytes : List ℕ) where
+  -- the refusal for its cause,
+  pub read_refused : {e : Refusal} → Err e ≡ whole_record bytes → (c : Cause) × (wholly read_state bytes ≡ refused c) × (e ≡ refusal c)
+  read_refused e = was_err stored_state (wholly read_state bytes) e
 
   -- or a struct that says the state, and is one that the code hands on
-  module _ (z : x.number ≡ 0) where
+  module _ {r : Record} (e : Ok r ≡ whole_record bytes) where
     pub read_got : (s : State) × (rest : List ℕ) × (wholly read_state bytes ≡ got s rest)
-    read_got = was_got (λ (y : ReadRecord). y.number) (planned 0) (λ s t. refl) (λ c. refl) (wholly read_state bytes) x e z
+    read_got = let g = was_ok stored_state (wholly read_state bytes) e in (g.0, g.1, g.2)
 
-    struct_state : x.plan ≡ stored_state read_got.0
-    struct_state = ap (λ (y : ReadRecord). y.plan) (e ∙ ap (planned 0) read_got.2)
+    struct_state : r ≡ stored_state read_got.0
+    unfolding read_got
+    struct_state = (was_ok stored_state (wholly read_state bytes) e).3
 
     module _ (b : Bytes bytes) where
       readable : Readable read_got.0
       readable = (written_read_state bytes read_got.0 read_got.1 b read_got.2).1
 
-      pub read_canonical : Canonical x.plan
+      pub read_canonical : Canonical r
       read_canonical = subst Canonical (sym struct_state) (canonical_read read_got.0 readable)
 
-      pub read_state_lem : state_of x.plan ≡ read_got.0
+      pub read_state_lem : state_of r ≡ read_got.0
       read_state_lem = ap state_of struct_state ∙ state_of_lem read_got.0 readable

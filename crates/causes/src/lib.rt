@@ -4,15 +4,16 @@
 
 #![tactic(auto)]
 
-ghost use Rattle.std.specs.Prelude.{◌≡◌, ◌∷◌, ◌≤◌, not, ◌&&◌, ◌||◌, leb, ltb, length, get_or};
+ghost use Rattle.std.specs.Prelude.{◌≡◌, ◌∷◌, ◌≤◌, not, ◌&&◌, ◌||◌, eqb, leb, ltb, length, get_or};
 ghost use Rattle.temporal.specs.Plan.{cause, asking};
+ghost use Rattle.ticket.specs.Refusal.{answer_number};
 ghost use Rattle.ticket.specs.Writing.{firsts, state_of};
 ghost use Rattle.network.specs.Stored.{at};
 ghost use Rattle.runs.specs.Calls.{cleared};
 ghost use Rattle.causes.specs.Structs.{Canonical};
 ghost use Rattle.causes.specs.FirstCause.{first_cause};
 
-use ticket::Ticket;
+use ticket::{Refusal, Ticket};
 
 // The most events, in the type of an event that is named.
 const EVENTS: u32 = Ticket::EVENTS as u32;
@@ -24,10 +25,7 @@ const SCRATCH: usize = 2400;
 pub fn short(out: usize, scratch: usize) -> bool
     ensures { result ≡ not (leb 1958 out && leb 2400 scratch) }
 {
-    if out < ticket::RECORD_BYTES {
-        return true;
-    }
-    scratch < SCRATCH
+    out < ticket::RECORD_BYTES || scratch < SCRATCH
 }
 
 // Put 0 into the first 2,400 numbers.
@@ -35,43 +33,33 @@ pub fn clear(scratch: &mut [u32])
     requires { 2400 ≤ length scratch.old }
     ensures { scratch.new ≡ cleared scratch.old }
 {
-    let mut i = 0;
-    while i < SCRATCH {
-        scratch[i] = 0;
-        i += 1;
-    }
+    scratch[..SCRATCH].fill(0);
 }
 
 // Whether a window does not lie inside the one from first to last.
 fn outside(opens: u32, closes: u32, first: u32, last: u32) -> bool
     ensures { result ≡ (ltb closes opens || (ltb opens first || ltb last closes)) }
 {
-    if closes < opens {
-        return true;
-    }
-    if opens < first {
-        return true;
-    }
-    last < closes
+    closes < opens || opens < first || last < closes
 }
 
-// The first cause to refuse a device's commitment, 0 if there is none: whether the event is its own, whether the window leaves the event's, and the device's count.
-fn first_cause(fit: bool, own: bool, leaves: bool, count: u32) -> u32
-    ensures { result ≡ first_cause fit own leaves count }
+// The first cause to refuse a device's commitment, if there is one: whether the event is its own, whether the window leaves the event's, and the device's count.
+fn first_cause(fit: bool, own: bool, leaves: bool, count: u32) -> Result<(), Refusal>
+    ensures { answer_number result ≡ first_cause fit own leaves count }
 {
     if !fit {
-        return 15;
+        return Err(Refusal::Unfit);
     }
     if !own {
-        return 20;
+        return Err(Refusal::Foreign);
     }
     if leaves {
-        return 13;
+        return Err(Refusal::Outside);
     }
     if count == ticket::COUNT_MAX {
-        return 18;
+        return Err(Refusal::Full);
     }
-    0
+    Ok(())
 }
 
 // The number that an array has for an event, 0 for point 0 and past the array.
@@ -79,49 +67,42 @@ fn number_at(xs: &[u32; Ticket::EVENTS], event: u32) -> u32
     requires { length xs.now ≡ 40 }
     ensures { result ≡ at (0 ∷ xs.now) event }
 {
-    if event == 0 {
-        return 0;
-    }
-    if EVENTS < event {
+    if event == 0 || EVENTS < event {
         return 0;
     }
     xs[event as usize - 1]
 }
 
-// The device that owns an event, 5 where there is no such event.
-fn owner_of(n: u32, owners: [u8; Ticket::EVENTS], event: u32) -> usize
-    requires { n ≤ 40 }
-    ensures { result ≡ get_or (5 ∷ firsts n (λ i. at owners i)) event 5 }
+// Whether the device owns the event; no device owns an event that is none of the n.
+fn owns(n: u32, owners: &[u8; Ticket::EVENTS], event: u32, device: u32) -> bool
+    requires { (n ≤ 40) × (device ≤ 4) }
+    ensures { result ≡ eqb (get_or (5 ∷ firsts n (λ i. at owners.now i)) event 5) device }
 {
-    if event == 0 {
-        return 5;
+    if event == 0 || n < event {
+        return false;
     }
-    if n < event {
-        return 5;
-    }
-    let owner = owners[event as usize - 1];
-    ticket::wide(owner)
+    u32::from(owners[event as usize - 1]) == device
 }
 
 // The first cause to refuse a device's commitment to the record.
-pub fn cause(r: ticket::Record, caller: u32, event: u32, opens: u32, closes: u32) -> u32
+pub fn cause(
+    r: ticket::Record,
+    caller: u32,
+    event: u32,
+    opens: u32,
+    closes: u32,
+) -> Result<(), Refusal>
     requires { Canonical r × (caller ≤ 4) }
-    ensures { result ≡ cause (state_of r) (asking caller event opens closes) }
+    ensures { answer_number result ≡ cause (state_of r) (asking caller event opens closes) }
 {
     let t = r.ticket;
-    let firsts = r.opens;
-    let lasts = r.closes;
-    let fit = fitness::fit(t, &firsts, &lasts);
-    let n = t.events as u32;
+    let fit = fitness::fit(t, &r.opens, &r.closes);
+    let own = owns(t.events as u32, &t.owners, event, caller);
     let leaves = outside(
         opens,
         closes,
-        number_at(&firsts, event),
-        number_at(&lasts, event),
+        number_at(&r.opens, event),
+        number_at(&r.closes, event),
     );
-    let owners = t.owners;
-    let own = owner_of(n, owners, event) == caller as usize;
-    let counts = r.counts;
-    let count = counts[caller as usize];
-    first_cause(fit, own, leaves, count)
+    first_cause(fit, own, leaves, r.counts[caller as usize])
 }

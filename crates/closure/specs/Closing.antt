@@ -39,18 +39,19 @@ module _ (n : ℕ) (D W : Matrix) (s : ℕ) (h : Closing n D W s) where
         high = after_top n D top s i j li lj;
       })
 
-  -- the entries R after the next stop
-  module _ (R : Matrix) (next : Next n W R (n - s)) (l : s ≤ n) (step : Carried n (n - (n - s)) W (n - (n - s) + 1) R) where
+  -- the entries R after the next stop, k
+  module _ (R : Matrix) (k : ℕ) (here : s + k ≡ n) (next : Next n W R k) (step : Carried n (n - k) W (n - k + 1) R) where
     next_after : Everywhere n (λ i j. R i j ≡ after n D (suc s) i j)
     unfolding after
     next_after i j li lj =
-        let k = n - s in
+        let same : n - s ≡ k = omega arith in
         let lk : k ≤ n = omega arith in
-        next i j li lj
-        ∙ ap₂ min (h.entries i j li lj) (ap₂ join (h.entries i k li lk) (h.entries k j lk lj))
+        rw same
+        (next i j li lj
+        ∙ ap₂ min (h.entries i j li lj) (ap₂ join (h.entries i k li lk) (h.entries k j lk lj)))
 
     on : Carried n s W (suc s) R
-    on = let same : n - (n - s) ≡ s = omega arith in rw (← add-one s) (rw same at step)
+    on = let same : n - k ≡ s = omega arith in rw (← add-one s) (rw same at step)
 
     pub closing_more : Floors n R → Closing n D R (s + 1)
     closing_more ok =
@@ -77,7 +78,7 @@ module _ (n : ℕ) (D W : Matrix) (s : ℕ) (h : Closing n D W s) where
           stopped = λ e.
               record {
                 stop = s;
-                stop_in = l;
+                stop_in = omega arith;
                 before = h.kept;
                 fallen =
                     record {

@@ -1,20 +1,20 @@
 -- The loops over the rows and columns of the points of a network: a stop, and the comparison with the floors. Assumes nothing.
 use Rattle.std.specs.Prelude.{ℕ, ◌+◌, ◌*◌, ◌≤◌, ◌<◌, min, ◌≡◌, refl, Bool, true, false, List, length, set}
-use Rattle.std.proofs.Common.{sym, ap₂, ◌∙◌, true≢false, arith, get_or-set_same, get_or-set_other}
+use Rattle.std.proofs.Common.{ap₂, ◌∙◌, true≢false, arith, get_or-set_same, get_or-set_other}
 use Rattle.std.proofs.lemmas.Bool.{false≢true}
 use Rattle.closure.specs.Cases.{by_eq, by_lt}
 use Rattle.closure.specs.Matrix.{Matrix, entry, none, join, relax, floor, Everywhere, Stored, join_left, floor_same, floor_other}
 use Rattle.closure.specs.Stops.{Floors}
 use Rattle.closure.specs.Steps.{Fallen, Checked}
 
--- The entries of the rows k and i are stored.
-pub record StoredRows (n k i : ℕ) (D : Matrix) : Type 0 where
-  pub stop : (j : ℕ) → j ≤ n → Stored (D k j)
-  pub row : (j : ℕ) → j ≤ n → Stored (D i j)
+-- The entries of a lent row and of the row i are stored.
+pub record StoredRows (n i : ℕ) (row : ℕ → ℕ) (D : Matrix) : Type 0 where
+  pub lent : (j : ℕ) → j ≤ n → Stored (row j)
+  pub own : (j : ℕ) → j ≤ n → Stored (D i j)
 
--- The row i of W is that of D after the stop k, and the other rows are those of D.
-pub record RowRelaxed (n k i : ℕ) (D W : Matrix) : Type 0 where
-  pub done : (j : ℕ) → j ≤ n → W i j ≡ relax D k i j
+-- The row i of W is that of D, or by k and on along the lent row, where that is less; and the other rows are those of D.
+pub record RowRelaxed (n k i : ℕ) (row : ℕ → ℕ) (D W : Matrix) : Type 0 where
+  pub done : (j : ℕ) → j ≤ n → W i j ≡ min (D i j) (join (D i k) (row j))
   pub rest : Everywhere n (λ r j. (r ≡ i → ⊥) → W r j ≡ D r j)
 
 -- Whether no entry of the row i is below its floor.
@@ -24,17 +24,17 @@ pub record RowChecked (n i : ℕ) (D : Matrix) (r : Bool) : Type 0 where
 
 -- ---- the columns of a row at a stop
 
--- The columns below j of the row i of W are those of D after the stop k, and all other entries are those of D.
-pub record Columns (n k i j : ℕ) (D W : Matrix) : Type 0 where
-  pub done : (c : ℕ) → c < j → W i c ≡ relax D k i c
+-- The columns below j of the row i of W are done, and all other entries are those of D.
+pub record Columns (n k i j : ℕ) (row : ℕ → ℕ) (D W : Matrix) : Type 0 where
+  pub done : (c : ℕ) → c < j → W i c ≡ min (D i c) (join (D i k) (row c))
   pub rest : (r c : ℕ) → c ≤ n → (r ≡ i → j ≤ c) → W r c ≡ D r c
 
-pub columns_none : {n k i : ℕ} {D : Matrix} → Columns n k i 0 D D
+pub columns_none : {n k i : ℕ} {row : ℕ → ℕ} {D : Matrix} → Columns n k i 0 row D D
 columns_none = record { done = λ c l. absurd (omega arith); rest = λ r c l h. refl }
 
-pub columns_more : (n k i j : ℕ) (D : Matrix) (w : List ℕ) (x : ℕ) → n ≤ 40 → i ≤ n → j ≤ n → length w ≡ 1681 → Columns n k i j D (entry w)
-    → x ≡ relax D k i j → Columns n k i (j + 1) D (entry (set w (41 * i + j) x))
-columns_more n k i j D w x ln li lj long h new =
+pub columns_more : (n k i j : ℕ) (row : ℕ → ℕ) (D : Matrix) (w : List ℕ) (x : ℕ) → n ≤ 40 → i ≤ n → j ≤ n → length w ≡ 1681 → Columns n k i j row D (entry w)
+    → x ≡ min (D i j) (join (D i k) (row j)) → Columns n k i (j + 1) row D (entry (set w (41 * i + j) x))
+columns_more n k i j row D w x ln li lj long h new =
     record {
       done = λ c l.
           by_eq c j
@@ -50,7 +50,7 @@ columns_more n k i j D w x ln li lj long h new =
           ∙ h.rest r c lc (λ e. omega (arith, late e));
     }
 
-pub columns_all : {n k i j : ℕ} {D W : Matrix} → j ≡ n + 1 → Columns n k i j D W → RowRelaxed n k i D W
+pub columns_all : {n k i j : ℕ} {row : ℕ → ℕ} {D W : Matrix} → j ≡ n + 1 → Columns n k i j row D W → RowRelaxed n k i row D W
 columns_all e h =
     record {
       done = λ c l. h.done c (omega arith);
@@ -58,65 +58,47 @@ columns_all e h =
     }
 
 -- no path to the stop: the row stays
-pub row_stays : (n k i : ℕ) (D : Matrix) → StoredRows n k i D → D i k ≡ none → RowRelaxed n k i D D
-row_stays n k i D s e =
+pub row_stays : (n k i : ℕ) (row : ℕ → ℕ) (D : Matrix) → StoredRows n i row D → D i k ≡ none → RowRelaxed n k i row D D
+row_stays n k i row D s e =
     record {
-      done = λ j l. let high = (s.row j l).high in rw e (rw (join_left (D k j)) (omega arith));
+      done = λ j l. let high = (s.own j l).high in rw e (rw (join_left (row j)) (omega arith));
       rest = λ r j lr lj other. refl;
     }
 
 -- ---- the rows at a stop
 
--- The rows below i of W but for the row k are those of D after the stop k, and the others are those of D.
+-- The rows below i of W are those of D after the stop k, and the others are those of D.
 pub record RowsRelaxed (n k i : ℕ) (D W : Matrix) : Type 0 where
-  pub done : Everywhere n (λ r j. r < i → (r ≡ k → ⊥) → W r j ≡ relax D k r j)
+  pub done : Everywhere n (λ r j. r < i → W r j ≡ relax D k r j)
   pub rest : Everywhere n (λ r j. i ≤ r → W r j ≡ D r j)
-  pub stop : (j : ℕ) → j ≤ n → W k j ≡ D k j
 
 pub rows_none : {n k : ℕ} {D : Matrix} → RowsRelaxed n k 0 D D
-rows_none = record { done = λ r j lr lj l. absurd (omega arith); rest = λ r j lr lj l. refl; stop = λ j l. refl }
+rows_none = record { done = λ r j lr lj l. absurd (omega arith); rest = λ r j lr lj l. refl }
 
-module _ {n k i : ℕ} {D W : Matrix} (lk : k ≤ n) (h : RowsRelaxed n k i D W) where
-  pub rows_stored : i ≤ n → Everywhere n (λ i j. Stored (D i j)) → StoredRows n k i W
+-- the lent row is that of the stop
+module _ {n k i : ℕ} {row : ℕ → ℕ} {D W : Matrix} (few : n ≤ 40) (lk : k ≤ n) (lent : (j : ℕ) → j ≤ 40 → row j ≡ D k j) (h : RowsRelaxed n k i D W) where
+  pub rows_stored : i ≤ n → Everywhere n (λ i j. Stored (D i j)) → StoredRows n i row W
   rows_stored li s =
       record {
-        stop = λ j l. rw (h.stop j l) (s k j lk l);
-        row = λ j l. rw (h.rest i j li l (omega arith)) (s i j li l);
+        lent = λ j l. rw (lent j (omega arith)) (s k j lk l);
+        own = λ j l. rw (h.rest i j li l (omega arith)) (s i j li l);
       }
 
-  pub rows_more : {R : Matrix} → i ≤ n → (i ≡ k → ⊥) → RowRelaxed n k i W R → RowsRelaxed n k (i + 1) D R
-  rows_more {R} li apart new =
+  pub rows_more : {R : Matrix} → i ≤ n → RowRelaxed n k i row W R → RowsRelaxed n k (i + 1) D R
+  rows_more {R} li new =
       record {
-        done = λ r j lr lj l other.
+        done = λ r j lr lj l.
             by_eq r i
             (λ e.
             rw e
             (new.done j lj
-            ∙ ap₂ min (h.rest i j li lj (omega arith)) (ap₂ join (h.rest i k li lk (omega arith)) (h.stop j lj))))
-            (λ differ.
-            new.rest r j lr lj differ
-            ∙ h.done r j lr lj (by_lt r i (λ m. m) (λ m. absurd (differ (omega arith)))) other);
+            ∙ ap₂ min (h.rest i j li lj (omega arith)) (ap₂ join (h.rest i k li lk (omega arith)) (lent j (omega arith)))))
+            (λ differ. new.rest r j lr lj differ ∙ h.done r j lr lj (by_lt r i (λ m. m) (λ m. absurd (differ (omega arith)))));
         rest = λ r j lr lj l. new.rest r j lr lj (λ e. omega arith) ∙ h.rest r j lr lj (omega arith);
-        stop = λ j l. new.rest k j lk l (λ e. apart (sym e)) ∙ h.stop j l;
       }
 
-  pub rows_skip : i ≡ k → RowsRelaxed n k (i + 1) D W
-  rows_skip e =
-      record {
-        done = λ r j lr lj l other. h.done r j lr lj (by_lt r i (λ m. m) (λ m. absurd (other (omega arith)))) other;
-        rest = λ r j lr lj l. h.rest r j lr lj (omega arith);
-        stop = h.stop;
-      }
-
-  pub stop_stored : Everywhere n (λ i j. Stored (D i j)) → StoredRows n k k W
-  stop_stored s =
-      record { stop = λ j l. rw (h.stop j l) (s k j lk l); row = λ j l. rw (h.stop j l) (s k j lk l) }
-
-  pub rows_all : {R : Matrix} → n < i → RowRelaxed n k k W R → Everywhere n (λ i j. R i j ≡ relax D k i j)
-  rows_all {R} past new r j lr lj =
-      by_eq r k
-      (λ e. rw e (new.done j lj ∙ ap₂ min (h.stop j lj) (ap₂ join (h.stop k lk) (h.stop j lj))))
-      (λ other. new.rest r j lr lj other ∙ h.done r j lr lj (omega arith) other)
+pub rows_all : {n k i : ℕ} {D W : Matrix} → n < i → RowsRelaxed n k i D W → Everywhere n (λ i j. W i j ≡ relax D k i j)
+rows_all past h r j lr lj = h.done r j lr lj (omega arith)
 
 -- ---- the comparison with the floors
 

@@ -4,7 +4,7 @@
 
 #![tactic(auto)]
 
-ghost use Rattle.std.specs.Prelude.{◌≡◌, ◌≢◌, ◌+◌, ◌*◌, ◌-◌, ◌≤◌, min, pos, negsuc, ◌≤ℤ◌, length, set};
+ghost use Rattle.std.specs.Prelude.{◌≡◌, ◌≢◌, ℕ, ◌+◌, ◌*◌, ◌-◌, ◌≤◌, min, pos, negsuc, ◌≤ℤ◌, length, set, slice_index};
 ghost use Rattle.closure.specs.Signed.{raise, lower};
 ghost use Rattle.closure.specs.Matrix as matrix;
 ghost use Rattle.closure.specs.Matrix.{entry, none, Everywhere, Stored};
@@ -21,30 +21,23 @@ const BIAS: u64 = 2_000_000;
 // No true entry of a network with a schedule is below -1_000_000.
 const LEAST: u64 = 1_000_000;
 
+// No path. An `Option<u64>` in each entry would double the array, which stands on the stack, and what the innermost loop reads.
 const NONE: u64 = 9_000_000_000_000_000_000;
 
 // What an output says where there is no path yet.
 const NO_PATH: i32 = 2_147_483_647;
 
 // A path of two parts.
+#[tactic(auto, unfolding(crate::specs::Matrix::join))]
 fn join(a: u64, b: u64) -> u64
     requires stored { Stored a }
     requires stored_2 { Stored b }
     ensures { result ≡ matrix.join a b }
 {
-    if a == NONE {
-        return NONE;
-    }
-    if b == NONE {
+    if a == NONE || b == NONE {
         return NONE;
     }
     a + b - BIAS
-}
-
-fn least(a: u64, b: u64) -> u64
-    ensures { result ≡ min a b }
-{
-    if b < a { b } else { a }
 }
 
 // Entries with no path; as a call's result they are no list of 1,681 literals in the proofs.
@@ -60,12 +53,10 @@ pub fn unruled(h: u64) -> [u64; 1681]
     ensures { (length result ≡ 1681) × Everywhere 40 (λ i j. entry result i j ≡ start.plain h i j) }
 {
     let mut w = pathless();
-    let mut i = 0;
-    while i < 41 {
+    for i in 0..41 {
         w[i] = BIAS + h;
         w[41 * i] = BIAS;
         w[41 * i + i] = BIAS;
-        i += 1;
     }
     w
 }
@@ -102,7 +93,7 @@ pub fn place_of(i: u8, j: u8) -> usize
     requires { (i ≤ 40) × (j ≤ 40) }
     ensures { result ≡ 41 * i + j }
 {
-    41 * (i as usize) + (j as usize)
+    41 * usize::from(i) + usize::from(j)
 }
 
 // An entry beside a bound.
@@ -110,27 +101,35 @@ pub fn bounded(x: u64, c: i32) -> u64
     requires { (negsuc 999999 ≤ℤ c) × (c ≤ℤ pos 1000000) }
     ensures { result ≡ min x (raise c) }
 {
-    least(x, raised(c))
+    x.min(raised(c))
 }
 
-// The row i after the stop k. Each entry of the row k is read before the same column is stored, so i may be k.
-fn relax_row(w: &mut [u64; 1681], n: usize, k: usize, i: usize)
+// The row k, apart: a loop that read it in the array, where it stores another row, would run entry by entry.
+fn row_of(w: &[u64; 1681], k: usize) -> [u64; 41]
+    requires { k ≤ 40 }
+    ensures { (j : ℕ) → j ≤ 40 → slice_index result j ≡ entry w.now k j }
+{
+    let mut row = [0u64; 41];
+    row.copy_from_slice(&w[41 * k..41 * k + 41]);
+    row
+}
+
+// The row i after the stop k, whose row is lent as it was before the stop.
+fn relax_row(w: &mut [u64; 1681], n: usize, k: usize, i: usize, row: &[u64; 41])
     requires n_bound { (n ≤ 40) × (k ≤ n) × (i ≤ n) × (length w.old ≡ 1681) }
-    requires stored_rows { StoredRows n k i (entry w.old) }
-    ensures { (length w.new ≡ 1681) × RowRelaxed n k i (entry w.old) (entry w.new) }
+    requires stored_rows { StoredRows n i (slice_index row.now) (entry w.old) }
+    ensures { (length w.new ≡ 1681) × RowRelaxed n k i (slice_index row.now) (entry w.old) (entry w.new) }
 {
     let a = w[41 * i + k];
     if a == NONE {
         return;
     }
-    let mut j = 0;
-    while j <= n {
-        w[41 * i + j] = least(w[41 * i + j], join(a, w[41 * k + j]));
-        j += 1;
+    for j in 0..n + 1 {
+        w[41 * i + j] = w[41 * i + j].min(join(a, row[j]));
     }
 }
 
-// The stop k, after the stops n down to k + 1: paths may also go through k. The row k, which the others read, is the last.
+// The stop k, after the stops n down to k + 1: paths may also go through k.
 // Where the entries were the shortest paths by the stops taken, they are now those by k too.
 pub fn stop(w: &mut [u64; 1681], n: usize, k: usize)
     requires n_bound { (n ≤ 40) × (k ≤ n) × (length w.old ≡ 1681) }
@@ -139,14 +138,10 @@ pub fn stop(w: &mut [u64; 1681], n: usize, k: usize)
     ensures everywhere_2 { Everywhere n (λ i j. entry w.new i j ≡ matrix.relax (entry w.old) k i j) }
     ensures carried { Carried n (n - k) (entry w.old) (n - k + 1) (entry w.new) }
 {
-    let mut i = 0;
-    while i <= n {
-        if i != k {
-            relax_row(w, n, k, i);
-        }
-        i += 1;
+    let row = row_of(w, k);
+    for i in 0..n + 1 {
+        relax_row(w, n, k, i, &row);
     }
-    relax_row(w, n, k, k);
 }
 
 // No entry of the row i is below its floor.
@@ -157,12 +152,10 @@ fn row_possible(w: &[u64; 1681], n: usize, i: usize) -> bool
     if w[41 * i + i] < BIAS {
         return false;
     }
-    let mut j = 0;
-    while j <= n {
+    for j in 0..n + 1 {
         if w[41 * i + j] < LEAST {
             return false;
         }
-        j += 1;
     }
     true
 }
@@ -172,12 +165,10 @@ fn possible(w: &[u64; 1681], n: usize) -> bool
     requires { n ≤ 40 }
     ensures { Checked n (entry w.now) result }
 {
-    let mut i = 0;
-    while i <= n {
+    for i in 0..n + 1 {
         if !row_possible(w, n, i) {
             return false;
         }
-        i += 1;
     }
     true
 }
@@ -189,13 +180,11 @@ pub fn closure(w: &mut [u64; 1681], n: usize) -> bool
     requires everywhere { Everywhere n (λ i j. entry w.old i j ≤ none) }
     ensures { Closed n (entry w.old) (entry w.new) result }
 {
-    let mut s = 0;
-    while s <= n {
-        stop(w, n, n - s);
+    for k in (0..=n).rev() {
+        stop(w, n, k);
         if !possible(w, n) {
             return false;
         }
-        s += 1;
     }
     true
 }
@@ -207,10 +196,8 @@ pub fn take_stops(w: &mut [u64; 1681], n: usize, count: usize)
     requires everywhere { Everywhere n (λ i j. entry w.old i j ≤ none) }
     ensures { Everywhere n (λ i j. entry w.new i j ≡ after n (entry w.old) count i j) }
 {
-    let mut taken = 0;
-    while taken < count {
+    for taken in 0..count {
         stop(w, n, n - taken);
-        taken += 1;
     }
 }
 
@@ -219,8 +206,7 @@ fn put(out: &mut [i32], n: usize, i: usize, j: usize, x: u64)
     requires { (n ≤ 40) × (1681 ≤ length out.old) × (i ≤ n) × (j ≤ n) × (x ≢ none → x ≤ 43000000) }
     ensures { out.new ≡ set out.old (i * (n + 1) + j) (matrix.shown x) }
 {
-    let y = shown(x);
-    out[i * (n + 1) + j] = y;
+    out[i * (n + 1) + j] = shown(x);
 }
 
 // The entries of the row i are stored.
@@ -229,10 +215,8 @@ fn write_row(w: &[u64; 1681], n: usize, i: usize, out: &mut [i32])
     requires everywhere { Everywhere n (λ i j. entry w.now i j ≢ none → entry w.now i j ≤ 43000000) }
     ensures { RowWritten n i (n + 1) (entry w.now) out.old out.new }
 {
-    let mut j = 0;
-    while j <= n {
+    for j in 0..n + 1 {
         put(out, n, i, j, w[41 * i + j]);
-        j += 1;
     }
 }
 
@@ -242,9 +226,7 @@ pub fn write(w: &[u64; 1681], n: usize, out: &mut [i32])
     requires everywhere { Everywhere n (λ i j. entry w.now i j ≢ none → entry w.now i j ≤ 43000000) }
     ensures { Written n (entry w.now) out.old out.new }
 {
-    let mut i = 0;
-    while i <= n {
+    for i in 0..n + 1 {
         write_row(w, n, i, out);
-        i += 1;
     }
 }

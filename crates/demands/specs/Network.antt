@@ -12,7 +12,8 @@ use Rattle.network.specs.Grow.{Flowless}
 use Rattle.ticket.specs.declared.Ticket.{Ticket}
 use Rattle.potentials.specs.Arrays.{Held}
 use Rattle.potentials.specs.Nodes.{close_node, close_most}
-use Rattle.demands.specs.Rules.{Obeyed, obeyed_same, biased_most}
+use Rattle.demands.specs.Cost.{biased_most}
+use Rattle.demands.specs.Rules.{Obeyed, obeyed_same}
 
 -- ---- the edges
 

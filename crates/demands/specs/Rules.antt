@@ -46,10 +46,6 @@ Holds t n p j = p (close_node n (at t.to j)) + 1000000 ≤ p (at t.from j) + bia
 abbrev pub Obeyed : Ticket → ℕ → (ℕ → ℕ) → Type 0
 Obeyed t n p = (j : ℕ) → j < t.rules → Holds t n p j
 
-pub biased_most : (z : ℤ) → above z ≤ 1000000 → biased z ≤ 2000000
-unfolding biased
-biased_most z l = omega arith
-
 -- what is read of a rule in arrays
 pub given_small : {t : Ticket} → Given t → (j : ℕ) → j < t.rules → SmallRule t.events (at t.from j) (at t.to j) (get_or t.bound j (pos 0))
 given_small G j l = record { from_point = G.from_point j l; to_point = G.to_point j l; high = G.high j l; deep = G.deep j l }

@@ -1,8 +1,7 @@
 -- An edge is stored, and its numbers and the times of its ends are small enough to compute with. Assumes nothing.
-use Rattle.std.specs.Prelude.{ℕ, ◌+◌, ◌*◌, ◌-◌, ◌≤◌, ◌<◌, List, length}
+use Rattle.std.specs.Prelude.{ℕ, ◌+◌, ◌*◌, ◌≤◌, ◌<◌, List, length}
 use Rattle.std.proofs.Common.{arith}
 use Rattle.network.specs.Stored.{at, tail_of, head_of, cost_of, Network, Potential, pot_bound}
-use Rattle.network.specs.Index.{Unlisted}
 
 pub record EdgeFits (net pot : List ℕ) (e : ℕ) : Type 0 where
   pub inside : 4 * e + 3 < length net
@@ -49,8 +48,3 @@ edge_place {net} {m} {nodes} N e le =
       tail = node_small N (N.tails e le);
       head = node_small N (N.heads e le);
     }
-
--- where the next edge of a list stands
-pub list_edge : {net : List ℕ} {m nodes side w x : ℕ} → Network net m nodes → Unlisted net m (2 * nodes - 2) side w x → 0 < x
-    → (x - 1 < m) × (2 * nodes - 2 ≤ x - 1) × (x - 1 - (2 * nodes - 2) < 4000)
-list_edge N U p = let hit = U.hit p in (omega (arith, U.below), omega (arith, hit.0), omega (arith, U.below, N.rules))

@@ -1,5 +1,5 @@
 -- The weighted total of windows in arrays, as a sum over the events. Rests on temporal's total and network's sums.
-use Rattle.std.specs.Prelude.{ℕ, suc, ◌+◌, ◌*◌, ◌-◌, ◌≤◌, ◌≡◌, refl, List, [], ◌∷◌, length, get_or}
+use Rattle.std.specs.Prelude.{ℕ, ◌+◌, ◌*◌, ◌-◌, ◌≤◌, ◌≡◌, refl, List, [], ◌∷◌, length, get_or}
 use Rattle.std.proofs.Common.{ap, ◌∙◌, sym, arith, mul-le-mul_left, mul-le-mul_right}
 use Rattle.temporal.specs.Ticket.{Window, weight, total, origin, total_of}
 use Rattle.network.specs.Stored.{at}
@@ -41,10 +41,6 @@ part owners opens closes i = weight (at owners i) * (at closes i - at opens i)
 
 pub part_most : (w x : ℕ) → w ≤ 3 → x ≤ 1000000 → w * x ≤ 3000000
 part_most w x h l = omega (arith, mul-le-mul_left w l, mul-le-mul_right 1000000 h)
-
-pub sum_next : (i : ℕ) (f : ℕ → ℕ) → sum (i + 1) f ≡ sum i f + f i
-unfolding sum
-sum_next i f = let e : i + 1 ≡ suc i = omega arith in rw e refl
 
 pub total_parts : (n : ℕ) (owners opens closes : List ℕ) → total_of (firsts n (at owners)) (window_list n opens closes) ≡ sum n (part owners opens closes)
 total_parts n owners opens closes =

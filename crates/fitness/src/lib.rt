@@ -34,13 +34,7 @@ pub fn total_of(n: usize, owners: &[u8; 40], opens: &[u32; 40], closes: &[u32; 4
     requires { (n ≤ 40) × ((i : ℕ) → i < n → (at opens.now i ≤ at closes.now i) × (at closes.now i ≤ 1000000)) }
     ensures { result ≡ total_of (firsts n (at owners.now)) (window_list n opens.now closes.now) }
 {
-    let mut sum = 0;
-    let mut i = 0;
-    while i < n {
-        sum += part(owners[i], opens[i], closes[i]);
-        i += 1;
-    }
-    sum
+    (0..n).map(|i| part(owners[i], opens[i], closes[i])).sum()
 }
 
 // The weighted total width of windows within the horizon.
@@ -49,6 +43,5 @@ pub fn total(t: ticket::Ticket, opens: &[u32; 40], closes: &[u32; 40]) -> u32
     requires lie { Lie t opens.now closes.now }
     ensures { result ≡ total (content t) (window_list t.events opens.now closes.now) }
 {
-    let owners = t.owners;
-    total_of(t.events, &owners, opens, closes)
+    total_of(t.events, &t.owners, opens, closes)
 }

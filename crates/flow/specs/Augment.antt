@@ -1,8 +1,6 @@
 -- Flow is sent to a root from a node with some supply: a search finds the node, and the flow is pushed along the links, which have no slack.
-use Rattle.std.specs.Prelude.{ℕ, ◌+◌, ◌*◌, ◌-◌, ◌≤◌, ◌<◌, ◌≡◌, List, length, set}
+use Rattle.std.specs.Prelude.{ℕ, ◌+◌, ◌*◌, ◌-◌, ◌≤◌, ◌<◌, ◌≡◌, refl, Option, Some, None, IsSome, List, length, set}
 use Rattle.std.proofs.Common.{ap, arith}
-use Rattle.std.proofs.Math.Logic.{by_cases}
-use Rattle.std.proofs.Math.Decide.{dec_lt}
 use Rattle.network.specs.Stored.{at, tail_of, flow_of, Kept, Network, Potential, kept_network, kept_potential}
 use Rattle.network.specs.Lists.{by_zero}
 use Rattle.network.specs.Index.{Index}
@@ -23,13 +21,17 @@ module _ {net net' : List ℕ} {m nodes : ℕ} {stamp via : List ℕ} {root star
       rw r.2 at (tight_links (tail_of net e) (N.tails e l) r.0 r.1 (ap (tail_of net) r.2)))
       (λ q. F.tight e l q))
 
--- where some node has a goal, the search ends at one
-pub found_goal : {net : List ℕ} {m nodes : ℕ} {pot stamp via : List ℕ} {root : ℕ} {goal : List ℕ} {r : ℕ} → Reached net m nodes pot stamp via root goal r
-    → (v : ℕ) × (v < nodes) × (0 < at goal v) → (r < nodes) × (0 < at stamp r) × (0 < at goal r)
-found_goal {nodes = nodes} {r = r} R g =
-    by_cases (dec_lt r nodes)
-    (λ l. (l, (R.found l).0, (R.found l).1))
-    (λ n. absurd (omega (arith, R.all (omega arith) g.0 g.1, g.2)))
+-- where some node has a goal, a search ends at one
+pub found_goal : {net : List ℕ} {m nodes : ℕ} {pot stamp via : List ℕ} {root : ℕ} {goal : List ℕ} (r : Option ℕ) → Reached net m nodes pot stamp via root goal r
+    → (v : ℕ) × (v < nodes) × (0 < at goal v) → IsSome r
+found_goal (Some v) R g = refl
+found_goal None R g = absurd (omega (arith, R.all g.0 g.1, g.2))
+
+-- where none has, every node is reached
+pub found_all : {net : List ℕ} {m nodes : ℕ} {pot stamp via : List ℕ} {root : ℕ} {goal : List ℕ} (r : Option ℕ) → Reached net m nodes pot stamp via root goal r
+    → ((v : ℕ) → at goal v ≡ 0) → (v : ℕ) → v < nodes → 0 < at stamp v
+found_all (Some u) R none v l = absurd (omega (arith, R.found.2, none u))
+found_all None R none v l = (R.all v l).0
 
 -- what augmenting the flow to root by at most want units asks
 pub record Ready (net : List ℕ) (m nodes : ℕ) (tails heads pot : List ℕ) (root : ℕ) (supply : List ℕ) (want : ℕ) : Type 0 where
@@ -59,24 +61,23 @@ pub record Augmented (net net' : List ℕ) (m nodes : ℕ) (pot : List ℕ) (roo
   pub sent : supply' ≡ set supply start (at supply start - f)
 
 pub loaded : {net : List ℕ} {m nodes : ℕ} {tails heads pot₀ pot stamp via : List ℕ} {root : ℕ} {supply : List ℕ} {start want : ℕ}
-    → Ready net m nodes tails heads pot₀ root supply want → Reached net m nodes pot stamp via root supply start
+    → Ready net m nodes tails heads pot₀ root supply want → Reached net m nodes pot stamp via root supply (Some start)
     → Loaded net m nodes stamp via root start supply want
 loaded A R =
-    let f = found_goal R A.left in
     record {
       network = A.network;
       linked = R.linked;
       small = A.small;
-      inside = f.0;
-      reached = f.1;
+      inside = R.found.0;
+      reached = R.found.1;
       long = A.long;
-      has = f.2;
+      has = R.found.2;
       some = A.some;
       few = A.few;
     }
 
 pub augmented : {net net' : List ℕ} {m nodes : ℕ} {tails heads pot₀ pot stamp via : List ℕ} {root : ℕ} {supply supply' : List ℕ} {start want f : ℕ}
-    → Ready net m nodes tails heads pot₀ root supply want → Reached net m nodes pot stamp via root supply start
+    → Ready net m nodes tails heads pot₀ root supply want → Reached net m nodes pot stamp via root supply (Some start)
     → Sends net net' m nodes stamp via root start supply supply' want f
     → Augmented net net' m nodes pot root supply supply' want f
 augmented {net} {net'} {m} {nodes} {pot = pot} {start = start} A R S =

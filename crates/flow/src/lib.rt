@@ -11,6 +11,8 @@ ghost use Rattle.network.specs.Grow.{Flowless};
 ghost use Rattle.flow.specs.Augment.{Ready, Augmented};
 ghost use Rattle.flow.specs.Solve.{Spans, Weights, Carries, FirstFlow, Sent, Lowered, Empty, Solved};
 
+use search::Trail;
+
 // Push flow to root, at most want units of it, from a node with some supply, along edges with no slack. The result is how much; the supply falls by it.
 fn augment(
     net: &mut [u32],
@@ -19,20 +21,18 @@ fn augment(
     tails: &[u32],
     heads: &[u32],
     pot: &mut [u32; 81],
-    stamp: &mut [usize; 81],
-    via: &mut [usize; 81],
+    trail: &mut Trail,
     root: usize,
     supply: &mut [u32; 81],
     want: u32,
 ) -> u32
-    requires ready { Ready net.old m nodes tails.now heads.now pot.old root supply.old want }
-    requires stamp_len { (length stamp.old ≡ 81) × (length via.old ≡ 81) }
+    requires { Ready net.old m nodes tails.now heads.now pot.old root supply.old want }
     ensures augmented { Augmented net.old net.new m nodes pot.new root supply.old supply.new want result }
-    ensures stamp_len_2 { (length stamp.new ≡ 81) × (length via.new ≡ 81) }
     ensures beyond { Beyond pot.old pot.new nodes }
 {
-    let v = search::reach(net, m, nodes, tails, heads, pot, stamp, via, root, supply);
-    path::push(net, m, nodes, stamp, via, root, v, supply, want)
+    // some node has supply, and the search ends at one
+    let from = search::reach(net, m, nodes, tails, heads, pot, trail, root, supply).unwrap();
+    path::push(net, m, nodes, trail, from, supply, want)
 }
 
 // A first flow: over each edge with no slack from a lo node to a hi node, as much as both ends want.
@@ -48,10 +48,8 @@ fn start(
     requires weights { Weights n supply.old × (demand.old ≡ supply.old) }
     ensures { FirstFlow net.old net.new m n pot.now supply.old supply.new demand.new }
 {
-    let mut e = 4 * n;
-    while e < m {
+    for e in 4 * n..m {
         carry::carry(net, pot, n, e, supply, demand);
-        e += 1;
     }
 }
 
@@ -75,12 +73,9 @@ fn serve(
     ensures beyond { Beyond pot.old pot.new (2 * n + 1) }
 {
     let nodes = 2 * n + 1;
-    let mut stamp = [0usize; 81];
-    let mut via = [0usize; 81];
-    let mut i = 1;
-    while i <= n {
-        let want = demand[i];
-        if 0 < want {
+    let mut trail = Trail::new();
+    for i in 1..n + 1 {
+        while 0 < demand[i] {
             let f = augment(
                 net,
                 m,
@@ -88,15 +83,12 @@ fn serve(
                 tails,
                 heads,
                 pot,
-                &mut stamp,
-                &mut via,
+                &mut trail,
                 n + i,
                 supply,
-                want,
+                demand[i],
             );
             carry::take(demand, i, f);
-        } else {
-            i += 1;
         }
     }
 }
@@ -143,11 +135,17 @@ fn lower(net: &[u32], m: usize, nodes: usize, tails: &[u32], heads: &[u32], pot:
     ensures lowered { Lowered net.now m nodes pot.new }
     ensures beyond { Beyond pot.old pot.new nodes }
 {
-    let mut stamp = [0usize; 81];
-    let mut via = [0usize; 81];
     let none = [0u32; 81];
     search::reach(
-        net, m, nodes, tails, heads, pot, &mut stamp, &mut via, 0, &none,
+        net,
+        m,
+        nodes,
+        tails,
+        heads,
+        pot,
+        &mut Trail::new(),
+        0,
+        &none,
     );
 }
 

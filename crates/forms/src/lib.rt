@@ -3,177 +3,145 @@
 
 #![tactic(auto)]
 
-ghost use Rattle.std.specs.Prelude.{◌≤◌, ◌≡◌, length, take, IfOk};
+ghost use Rattle.std.specs.Prelude.{◌≡◌, ◌≤◌, length, take, IfOk};
+ghost use Rattle.std.specs.Result.{result_unwrap_or};
 ghost use Rattle.script.specs.Lent.{Decides, untouched, holding};
 
 use script::{lent, print};
 use std::io;
-use ticket::{Record, Ticket, Written};
+use ticket::{Record, Refusal, Ticket};
+
+// What is read and written: tickets and records.
+trait Form: Copy {
+    fn read(s: &[u8]) -> Result<Self, Refusal>;
+
+    fn write(self, out: &mut [u8]) -> Result<usize, Refusal>;
+}
+
+impl Form for Ticket {
+    fn read(s: &[u8]) -> Result<Self, Refusal> {
+        reading::read_ticket(s)
+    }
+
+    fn write(self, out: &mut [u8]) -> Result<usize, Refusal> {
+        writing::write_ticket(self, out)
+    }
+}
+
+impl Form for Record {
+    fn read(s: &[u8]) -> Result<Self, Refusal> {
+        reading_records::read_record(s)
+    }
+
+    fn write(self, out: &mut [u8]) -> Result<usize, Refusal> {
+        writing_records::write_record(self, out)
+    }
+}
 
 // ---- writing
 
 // The number and the length, and whether the output is right: the first of the bytes expected, or as it was.
-fn say_written(rt: &impl Print, w: Written, expected: &[u8], out: &[u8]) -> io::Result<bool>
-    ensures { IfOk result (λ right. Decides right (out.now ≡ holding (take w.length expected.now) untouched)) }
+fn say_written(
+    rt: &impl Print,
+    written: Result<usize, Refusal>,
+    expected: &[u8],
+    out: &[u8],
+) -> io::Result<bool>
+    ensures { IfOk result (λ right. Decides right (out.now ≡ holding (take (result_unwrap_or written 0) expected.now) untouched)) }
 {
-    print::number(rt, w.number)?;
-    print::length(rt, w.length)?;
-    Ok(lent::written(lent::part(expected, w.length), out))
+    print::number(rt, ticket::answer_number(&written))?;
+    let length = written.unwrap_or(0);
+    print::length(rt, length)?;
+    Ok(lent::written(lent::part(expected, length), out))
 }
 
-fn write_ticket(rt: &impl Print, t: Ticket, expected: &[u8], room: usize) -> io::Result<bool>
+fn write_form<F: Form>(rt: &impl Print, form: F, expected: &[u8], room: usize) -> io::Result<bool>
     requires { room ≤ 2048 }
 {
     let mut out = lent::output();
-    let w = writing::write_ticket(t, &mut out[..room]);
-    say_written(rt, w, expected, &out)
-}
-
-fn write_record(rt: &impl Print, r: Record, expected: &[u8], room: usize) -> io::Result<bool>
-    requires { room ≤ 2048 }
-{
-    let mut out = lent::output();
-    let w = writing_records::write_record(r, &mut out[..room]);
-    say_written(rt, w, expected, &out)
+    let written = form.write(&mut out[..room]);
+    say_written(rt, written, expected, &out)
 }
 
 // ---- reading, and writing what was read
 
-// The input as a ticket; whether what is written of it are the bytes expected.
-fn read_ticket(rt: &impl Print, input: &[u8], expected: &[u8]) -> io::Result<bool> {
-    let r = reading::read_ticket(input);
-    print::number(rt, r.number)?;
-    if r.number == 0 {
-        write_ticket(rt, r.ticket, expected, 2048)
-    } else {
-        Ok(true)
-    }
-}
-
-// The same as a record.
-fn read_record(rt: &impl Print, input: &[u8], expected: &[u8]) -> io::Result<bool> {
-    let r = reading_records::read_record(input);
-    print::number(rt, r.number)?;
-    if r.number == 0 {
-        write_record(rt, r.plan, expected, 2048)
-    } else {
-        Ok(true)
+// The input as a ticket or a record; whether what is written of it are the bytes expected.
+fn rewrite<F: Form>(rt: &impl Print, input: &[u8], expected: &[u8]) -> io::Result<bool> {
+    let form = F::read(input);
+    print::number(rt, ticket::answer_number(&form))?;
+    match form {
+        Ok(form) => write_form(rt, form, expected, 2048),
+        Err(_) => Ok(true),
     }
 }
 
 // What is written of what was read is the input, unless a case expects other bytes, to fail.
 pub fn read(rt: &impl Print, input: &[u8], expected: &[u8]) -> io::Result<()> {
-    let ticket = read_ticket(rt, input, expected)?;
-    let record = read_record(rt, input, expected)?;
+    let ticket = rewrite::<Ticket>(rt, input, expected)?;
+    let record = rewrite::<Record>(rt, input, expected)?;
     print::end(rt, ticket & record)
 }
 
 // ---- parts
 
-fn number(as_record: bool, s: &[u8]) -> u32 {
-    if as_record {
-        reading_records::read_record(s).number
-    } else {
-        reading::read_ticket(s).number
-    }
+// Whether some bytes are refused for their end.
+fn is_short<F: Form>(s: &[u8]) -> bool {
+    matches!(F::read(s), Err(Refusal::Short))
 }
 
 // The first length whose part of the input is not refused for its end.
-fn cut(as_record: bool, s: &[u8]) -> usize {
-    let mut n = 0;
-    while n < s.len() {
-        if number(as_record, &s[..n]) != 1 {
+fn cut<F: Form>(s: &[u8]) -> usize {
+    for n in 0..s.len() {
+        if !is_short::<F>(&s[..n]) {
             return n;
         }
-        n += 1;
     }
-    n
+    s.len()
 }
 
 pub fn every(rt: &impl Print, input: &[u8]) -> io::Result<()> {
-    print::length(rt, cut(false, input))?;
-    print::length(rt, cut(true, input))?;
+    print::length(rt, cut::<Ticket>(input))?;
+    print::length(rt, cut::<Record>(input))?;
     print::end(rt, true)
 }
 
 // ---- writing values that no reading gives
 
-// The number whose two's complement bits are b.
-fn signed(b: u32) -> i32 {
-    if b < 2147483648 {
-        b as i32
-    } else {
-        let k = (u32::MAX - b) as i32;
-        -1 - k
+// The number whose two's complement bits stand in four bytes at a place.
+pub fn bound_at(s: &[u8], at: usize) -> i32 {
+    i32::from_le_bytes(script::four(s, at).to_le_bytes())
+}
+
+// Every `step`th value of the input from a place on.
+pub fn spread<T: Copy, F: Fn(&[u8], usize) -> T>(
+    value: F,
+    s: &[u8],
+    start: usize,
+    step: usize,
+    out: &mut [T],
+)
+    requires value { F.IsAlwaysCallable value }
+    requires places { (start ≤ 2000) × (step ≤ 9) × (length out.old ≤ 2048) }
+{
+    for i in 0..out.len() {
+        out[i] = value(s, start + step * i);
     }
 }
 
-// Every `step`th byte of the input from a place on.
-pub fn spread(s: &[u8], start: usize, step: usize, out: &mut [u8])
-    requires { (start ≤ 2000) × (step ≤ 9) × (length out.old ≤ 2048) }
+// The same as an array.
+fn field<T: Copy, F: Fn(&[u8], usize) -> T, const N: usize>(
+    value: F,
+    zero: T,
+    s: &[u8],
+    start: usize,
+    step: usize,
+) -> [T; N]
+    requires value { F.IsAlwaysCallable value }
+    requires places { (start ≤ 2000) × (step ≤ 9) × (N ≤ 2048) }
 {
-    let mut at = start;
-    let mut i = 0;
-    while i < out.len() {
-        out[i] = script::byte(s, at);
-        at += step;
-        i += 1;
-    }
-}
-
-// The same with numbers of four bytes.
-fn spread_numbers(s: &[u8], start: usize, out: &mut [u32])
-    requires { (start ≤ 2000) × (length out.old ≤ 2048) }
-{
-    let mut i = 0;
-    while i < out.len() {
-        out[i] = script::four(s, start + 9 * i);
-        i += 1;
-    }
-}
-
-// The same with bounds.
-pub fn spread_bounds(s: &[u8], start: usize, out: &mut [i32])
-    requires { (start ≤ 2000) × (length out.old ≤ 2048) }
-{
-    let mut i = 0;
-    while i < out.len() {
-        out[i] = signed(script::four(s, start + 6 * i));
-        i += 1;
-    }
-}
-
-// Fields of 40 events and of 256 rules.
-fn event_bytes(s: &[u8], start: usize, step: usize) -> [u8; Ticket::EVENTS]
-    requires { (start ≤ 2000) × (step ≤ 9) }
-{
-    let mut field = [0u8; Ticket::EVENTS];
-    spread(s, start, step, &mut field);
-    field
-}
-
-fn event_numbers(s: &[u8], start: usize) -> [u32; Ticket::EVENTS]
-    requires { start ≤ 2000 }
-{
-    let mut field = [0u32; Ticket::EVENTS];
-    spread_numbers(s, start, &mut field);
-    field
-}
-
-fn rule_bytes(s: &[u8], start: usize) -> [u8; Ticket::RULES]
-    requires { start ≤ 2000 }
-{
-    let mut field = [0u8; Ticket::RULES];
-    spread(s, start, 6, &mut field);
-    field
-}
-
-fn rule_bounds(s: &[u8], start: usize) -> [i32; Ticket::RULES]
-    requires { start ≤ 2000 }
-{
-    let mut field = [0i32; Ticket::RULES];
-    spread_bounds(s, start, &mut field);
-    field
+    let mut out = [zero; N];
+    spread(value, s, start, step, &mut out);
+    out
 }
 
 // The ticket that 1,584 bytes with 40 events and 256 rules say, with no value tested.
@@ -181,41 +149,28 @@ fn ticket_of(s: &[u8]) -> Ticket {
     Ticket {
         horizon: script::four(s, 0),
         events: script::two(s, 4) as usize,
-        owners: event_bytes(s, 6, 1),
+        owners: field(script::byte, 0, s, 6, 1),
         rules: script::two(s, 46) as usize,
-        from: rule_bytes(s, 48),
-        to: rule_bytes(s, 49),
-        bound: rule_bounds(s, 50),
+        from: field(script::byte, 0, s, 48, 6),
+        to: field(script::byte, 0, s, 49, 6),
+        bound: field(bound_at, 0, s, 50, 6),
     }
-}
-
-// Counts of five devices.
-fn device_counts(s: &[u8], start: usize) -> [u32; ticket::DEVICES]
-    requires { start ≤ 2000 }
-{
-    let mut field = [0u32; ticket::DEVICES];
-    let mut o = 0;
-    while o < ticket::DEVICES {
-        field[o] = script::two(s, start + 2 * o);
-        o += 1;
-    }
-    field
 }
 
 // The same of a record of 1,958 bytes.
 fn record_of(s: &[u8]) -> Record {
     Record {
         ticket: ticket_of(s),
-        flags: event_bytes(s, 1586, 9),
-        opens: event_numbers(s, 1587),
-        closes: event_numbers(s, 1591),
-        counts: device_counts(s, 1948),
+        flags: field(script::byte, 0, s, 1586, 9),
+        opens: field(script::four, 0, s, 1587, 9),
+        closes: field(script::four, 0, s, 1591, 9),
+        counts: field(script::two, 0, s, 1948, 2),
     }
 }
 
 pub fn write(rt: &impl Print, input: &[u8], room: usize) -> io::Result<()> {
-    let n = script::least(room, 2048);
-    let ticket = write_ticket(rt, ticket_of(input), input, n)?;
-    let record = write_record(rt, record_of(input), input, n)?;
+    let n = room.min(2048);
+    let ticket = write_form(rt, ticket_of(input), input, n)?;
+    let record = write_form(rt, record_of(input), input, n)?;
     print::end(rt, ticket & record)
 }

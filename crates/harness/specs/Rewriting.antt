@@ -1,17 +1,19 @@
 -- What reading bytes and writing them back answers: the number, the length that is stored, and the output afterwards.
-use Rattle.std.specs.Prelude.{ℕ, ◌≤◌, ◌<◌, min, ◌≡◌, refl, cond, List, [], ◌≢◌, leb, length}
-use Rattle.std.proofs.Common.{◌∙◌, arith, le-leb}
+use Rattle.std.specs.Prelude.{ℕ, ◌≤◌, ◌<◌, min, ◌≡◌, refl, cond, List, [], leb, length, Result, Ok, Err}
+use Rattle.std.specs.Result.{result_unwrap_or}
+use Rattle.std.proofs.Common.{sym, ap, ◌∙◌, le-leb}
 use Rattle.std.proofs.lemmas.Bool.{lt-leb}
-use Rattle.temporal.specs.Ticket as temporal
-use Rattle.temporal.specs.Plan.{State}
 use Rattle.ticket.specs.Parser.{number, Out, got, refused, Parser, wholly}
-use Rattle.ticket.proofs.Laws.{number_some}
+use Rattle.ticket.specs.Refusal.{number_of, answer, answer_number}
+use Rattle.ticket.proofs.Refusals.{was_ok, was_err, refusal_number}
 use Rattle.ticket.specs.Format.{read_ticket, read_state}
-use Rattle.ticket.specs.Stored.{answer, planned, whole_ticket, whole_record}
-use Rattle.ticket.specs.Writing.{over, told, left, writing, writing_record}
+use Rattle.ticket.specs.Stored.{stored, stored_state, whole_ticket, whole_record}
+use Rattle.ticket.specs.Writing.{over, left, writing, writing_record}
 use Rattle.ticket.specs.RoundTrip.{Bytes}
 use Rattle.ticket.proofs.Agree.{reread, reread_state}
-use Rattle.ticket.specs.declared.Written.{Written}
+use Rattle.ticket.specs.declared.Ticket.{Ticket}
+use Rattle.ticket.specs.declared.Record.{Record}
+use Rattle.ticket.specs.declared.Refusal.{Refusal}
 
 -- x where 32 bits hold it, else the largest number that they hold
 abbrev pub narrow : ℕ → ℕ
@@ -50,41 +52,29 @@ module _ {A : Type 0} (least : ℕ) (p : Parser A) (bytes out : List ℕ) where
   rewriting_read h = rw (le-leb least (length out) h)
 
   -- the bytes are written back
-  pub rewriting_again : (x : Out (List ℕ)) (w : Written) (after : List ℕ) (size : ℕ) → x ≡ got bytes [] → rewriting least p bytes out ≡ again bytes out
-      → w ≡ told x → after ≡ left out x → size ≡ narrow w.length
-      → (w.number ≡ (rewriting least p bytes out).number) × ((after ≡ (rewriting least p bytes out).out) × (size ≡ (rewriting least p bytes out).length))
+  pub rewriting_again : (x : Out (List ℕ)) (w : Result ℕ Refusal) (after : List ℕ) (size : ℕ) → x ≡ got bytes [] → rewriting least p bytes out ≡ again bytes out
+      → w ≡ answer length x → after ≡ left out x → size ≡ narrow (result_unwrap_or w 0)
+      → (answer_number w ≡ (rewriting least p bytes out).number) × ((after ≡ (rewriting least p bytes out).out) × (size ≡ (rewriting least p bytes out).length))
   rewriting_again x w after size e f g h k = rw (f, h, k, g, e) (refl, (refl, refl))
 
-module _ (bytes out : List ℕ) (n : ℕ) where
-  pub ticket_refused : 1584 ≤ length out → n ≡ (whole_ticket bytes).number → n ≢ 0 → rewriting 1584 read_ticket bytes out ≡ unwritten n out
-  ticket_refused l e h = rewriting_read 1584 read_ticket bytes out l ∙ go (wholly read_ticket bytes) e
-    where
-      go : (x : Out temporal.Ticket) → n ≡ (answer 0 x).number → rewritten bytes out x ≡ unwritten n out
-      go (got k rest) q = absurd (h q)
-      go (refused c) q = rw q
+module _ (bytes out : List ℕ) where
+  pub ticket_refused : 1584 ≤ length out → {r : Refusal} → Err r ≡ whole_ticket bytes → rewriting 1584 read_ticket bytes out ≡ unwritten (number_of r) out
+  ticket_refused l e = let (c, q, same) = was_err stored (wholly read_ticket bytes) e in
+      rewriting_read 1584 read_ticket bytes out l ∙ ap (rewritten bytes out) q ∙ ap (λ n. unwritten n out) (sym (ap number_of same ∙ refusal_number c))
 
-  pub record_refused : 1958 ≤ length out → n ≡ (whole_record bytes).number → n ≢ 0 → rewriting 1958 read_state bytes out ≡ unwritten n out
-  record_refused l e h = rewriting_read 1958 read_state bytes out l ∙ go (wholly read_state bytes) e
-    where
-      go : (x : Out State) → n ≡ (planned 0 x).number → rewritten bytes out x ≡ unwritten n out
-      go (got s rest) q = absurd (h q)
-      go (refused c) q = rw q
+  pub record_refused : 1958 ≤ length out → {r : Refusal} → Err r ≡ whole_record bytes → rewriting 1958 read_state bytes out ≡ unwritten (number_of r) out
+  record_refused l e = let (c, q, same) = was_err stored_state (wholly read_state bytes) e in
+      rewriting_read 1958 read_state bytes out l ∙ ap (rewritten bytes out) q ∙ ap (λ n. unwritten n out) (sym (ap number_of same ∙ refusal_number c))
 
 module _ (bytes out : List ℕ) (b : Bytes bytes) where
-  pub ticket_again : 1584 ≤ length out → (whole_ticket bytes).number ≡ 0
-      → (writing out (whole_ticket bytes).ticket [] ≡ got bytes []) × (rewriting 1584 read_ticket bytes out ≡ again bytes out)
-  ticket_again l e = rw (rewriting_read 1584 read_ticket bytes out l) (go (wholly read_ticket bytes) refl e)
-    where
-      go : (x : Out temporal.Ticket) → wholly read_ticket bytes ≡ x → (answer 0 x).number ≡ 0
-          → (writing out (answer 0 x).ticket [] ≡ got bytes []) × (rewritten bytes out x ≡ again bytes out)
-      go (got k rest) q z = (reread out bytes k rest b q l, refl)
-      go (refused c) q z = absurd (omega (arith, number_some c))
+  pub ticket_again : 1584 ≤ length out → {t : Ticket} → Ok t ≡ whole_ticket bytes → (writing out t [] ≡ got bytes []) × (rewriting 1584 read_ticket bytes out ≡ again bytes out)
+  ticket_again l e = let (k, rest, q, same) = was_ok stored (wholly read_ticket bytes) e in (
+    ap (λ t. writing out t []) same ∙ reread out bytes k rest b q l,
+    rewriting_read 1584 read_ticket bytes out l ∙ ap (rewritten bytes out) q,
+  )
 
-  pub record_again : 1958 ≤ length out → (whole_record bytes).number ≡ 0
-      → (writing_record out (whole_record bytes).plan [] ≡ got bytes []) × (rewriting 1958 read_state bytes out ≡ again bytes out)
-  record_again l e = rw (rewriting_read 1958 read_state bytes out l) (go (wholly read_state bytes) refl e)
-    where
-      go : (x : Out State) → wholly read_state bytes ≡ x → (planned 0 x).number ≡ 0
-          → (writing_record out (planned 0 x).plan [] ≡ got bytes []) × (rewritten bytes out x ≡ again bytes out)
-      go (got s rest) q z = (reread_state out bytes s rest b q l, refl)
-      go (refused c) q z = absurd (omega (arith, number_some c))
+  pub record_again : 1958 ≤ length out → {r : Record} → Ok r ≡ whole_record bytes → (writing_record out r [] ≡ got bytes []) × (rewriting 1958 read_state bytes out ≡ again bytes out)
+  record_again l e = let (s, rest, q, same) = was_ok stored_state (wholly read_state bytes) e in (
+    ap (λ r. writing_record out r []) same ∙ reread_state out bytes s rest b q l,
+    rewriting_read 1958 read_state bytes out l ∙ ap (rewritten bytes out) q,
+  )

@@ -1,9 +1,9 @@
 -- The structs of given values: as many of each slice as a struct has places, and zeros where a slice is shorter.
-use Rattle.std.specs.Prelude.{ℕ, ◌+◌, ◌≤◌, ◌<◌, min, ◌≡◌, List, ℤ, pos, length, get_or, set, take}
-use Rattle.std.proofs.Common.{sym, ap, ◌∙◌, ⊎_elim, add-one, arith, length-take, take_all, take-suc}
+use Rattle.std.specs.Prelude.{ℕ, ◌≤◌, ◌<◌, min, ◌≡◌, List, ◌++◌, ℤ, pos, length, take, drop, replicate}
+use Rattle.std.proofs.Common.{ap, ◌∙◌, ⊎_elim, arith, length-take, take_all}
+use Rattle.std.proofs.lemmas.List.{drop-replicate}
 use Rattle.temporal.proofs.Lists.{below_or_not}
 use Rattle.ticket.specs.Stored.{pad}
-use Rattle.ticket.proofs.Laws.{pad_set}
 use Rattle.ticket.specs.declared.Ticket.{Ticket}
 use Rattle.ticket.specs.declared.Record.{Record}
 
@@ -27,21 +27,17 @@ abbrev pub recorded : Ticket → List ℕ → List ℕ → List ℕ → List ℕ
 recorded t fs os cs ks =
     record { ticket = t; flags = placed 0 40 fs; opens = placed 0 40 os; closes = placed 0 40 cs; counts = placed 0 5 ks }
 
--- One more.
-pub placed_more : {A : Type 0} (z : A) (k : ℕ) (s : List A) (i : ℕ) → i < length s → i < k
-    → set (pad z k (take i s)) i (get_or s i z) ≡ pad z k (take (i + 1) s)
-placed_more z k s i h l =
-    pad_set z k (take i s) i (get_or s i z) (length-take i s ∙ small) l ∙ ap (pad z k) (sym (take-suc s i z h) ∙ ap (λ j. take j s) (sym (add-one i)))
-  where
-    small : min i (length s) ≡ i
-    small = omega arith
-
--- All that there is room for.
-pub placed_all : {A : Type 0} (z : A) (k : ℕ) (s : List A) (i : ℕ) → i ≡ min (length s) k → pad z k (take i s) ≡ placed z k s
-placed_all z k s i e =
+-- As many as there is room for, in front of zeros.
+pub placed_all : {A : Type 0} (z : A) (k : ℕ) (s : List A) (n : ℕ) → n ≡ min (length s) k → take n s ++ drop n (replicate k z) ≡ placed z k s
+unfolding pad
+placed_all z k s n e =
     ⊎_elim
-    (λ (h : length s < k). let q : i ≡ length s = omega arith in ap (pad z k) (take_all i s (omega arith) ∙ sym (take_all k s (omega arith))))
-    (λ (h : k ≤ length s). let q : i ≡ k = omega arith in ap (λ j. pad z k (take j s)) q)
+    (λ (h : length s < k).
+    let q : n ≡ length s = omega arith in
+    rw (q, take_all (length s) s (omega arith), take_all k s (omega arith)) (ap (λ xs. s ++ xs) (drop-replicate (length s) k z)))
+    (λ (h : k ≤ length s).
+    let q : n ≡ k = omega arith in
+    rw q (ap (λ xs. take k s ++ xs) (drop-replicate k k z ∙ ap (λ m. replicate m z) (omega (arith, length-take k s)))))
     (below_or_not (length s) k)
 
 pub valued_of : (h n m : ℕ) (o os f fs t ts : List ℕ) (b bs : List ℤ) → o ≡ placed 0 40 os → f ≡ placed 0 256 fs → t ≡ placed 0 256 ts → b ≡ placed (pos 0) 256 bs

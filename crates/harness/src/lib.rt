@@ -1,20 +1,24 @@
 // What the tests call beside the functions of crate `beyunlak`: both plans and commitment with lent scratch, reading a ticket or a record and
-// writing it back, and writing a ticket or a record of given values. Each answers the refusal number; a second result is stored through a reference.
+// writing it back, and writing a ticket or a record of given values. Each answers the refusal number; a second result is stored through a reference,
+// and a struct comes in by its fields, as C takes it.
 
 #![tactic(auto)]
 
 ghost use Rattle.std.specs.Prelude.{◌≡◌, pos};
 ghost use Rattle.ticket.specs.Format.{read_ticket, read_state};
+ghost use Rattle.std.specs.Result.{result_unwrap_or};
+ghost use Rattle.ticket.specs.Refusal.{answer_number};
 ghost use Rattle.ticket.specs.Writing.{written_of, output_of, record_written, record_output};
 ghost use Rattle.runs.specs.Calls.{planning, planning_latest, committing};
 ghost use Rattle.harness.specs.Rewriting.{rewriting};
 ghost use Rattle.harness.specs.Values.{placed, valued, recorded};
 ghost use Rattle.harness.specs.Rewriting.{narrow as Rewriting·narrow};
 
+// A length as C has it: the largest number where it is above that.
 fn narrow(x: usize) -> u32
     ensures { result ≡ Rewriting·narrow x }
 {
-    if x < 4294967295 { x as u32 } else { 4294967295 }
+    x.min(u32::MAX as usize) as u32
 }
 
 #[unsafe(no_mangle)]
@@ -32,10 +36,9 @@ pub extern "C" fn harness_plan(
     ensures sum_after { sum.new ≡ (planning ticket.now out.old scratch.old).total }
 {
     let planned = plan::plan(ticket, out, scratch);
-    let n = planned.length;
-    *size = narrow(n);
-    *sum = planned.total;
-    planned.number
+    *size = narrow(planned.map_or(0, |accepted| accepted.length));
+    *sum = planned.map_or(0, |accepted| accepted.total);
+    ticket::answer_number(&planned)
 }
 
 #[unsafe(no_mangle)]
@@ -53,10 +56,9 @@ pub extern "C" fn harness_plan_latest(
     ensures sum_after { sum.new ≡ (planning_latest ticket.now out.old scratch.old).total }
 {
     let latest = plan::plan_latest(ticket, out, scratch);
-    let n = latest.length;
-    *size = narrow(n);
-    *sum = latest.total;
-    latest.number
+    *size = narrow(latest.map_or(0, |accepted| accepted.length));
+    *sum = latest.map_or(0, |accepted| accepted.total);
+    ticket::answer_number(&latest)
 }
 
 #[unsafe(no_mangle)]
@@ -78,10 +80,9 @@ pub extern "C" fn harness_commit(
     ensures sum_after { sum.new ≡ (committing «record».now caller event «open» close out.old scratch.old).total }
 {
     let committed = plan::commit(record, caller, event, open, close, out, scratch);
-    let n = committed.length;
-    *size = narrow(n);
-    *sum = committed.total;
-    committed.number
+    *size = narrow(committed.map_or(0, |accepted| accepted.length));
+    *sum = committed.map_or(0, |accepted| accepted.total);
+    ticket::answer_number(&committed)
 }
 
 #[unsafe(no_mangle)]
@@ -94,16 +95,14 @@ pub extern "C" fn harness_rewrite_ticket(ticket: &[u8], out: &mut [u8], size: &m
     if out.len() < ticket::TICKET_BYTES {
         return 10;
     }
-    let read = reading::read_ticket(ticket);
-    let number = read.number;
-    if number != 0 {
-        return number;
+    match reading::read_ticket(ticket) {
+        Err(refusal) => refusal.number(),
+        Ok(t) => {
+            let written = writing::write_ticket(t, out);
+            *size = narrow(written.unwrap_or(0));
+            ticket::answer_number(&written)
+        }
     }
-    let t = read.ticket;
-    let written = writing::write_ticket(t, out);
-    let n = written.length;
-    *size = narrow(n);
-    written.number
 }
 
 #[unsafe(no_mangle)]
@@ -116,82 +115,23 @@ pub extern "C" fn harness_rewrite_record(record: &[u8], out: &mut [u8], size: &m
     if out.len() < ticket::RECORD_BYTES {
         return 10;
     }
-    let read = reading_records::read_record(record);
-    let number = read.number;
-    if number != 0 {
-        return number;
+    match reading_records::read_record(record) {
+        Err(refusal) => refusal.number(),
+        Ok(r) => {
+            let written = writing_records::write_record(r, out);
+            *size = narrow(written.unwrap_or(0));
+            ticket::answer_number(&written)
+        }
     }
-    let p = read.plan;
-    let written = writing_records::write_record(p, out);
-    let n = written.length;
-    *size = narrow(n);
-    written.number
 }
 
-// The first 40 numbers of s, then zeros; and so the first 256, and the first 5. Owners and flags are bytes.
-fn byte_places(s: &[u8]) -> [u8; 40]
-    ensures { result ≡ placed 0 40 s.now }
+// The first N numbers of s, then zeros.
+fn places<T: Copy, const N: usize>(zero: T, s: &[T]) -> [T; N]
+    ensures { result ≡ placed zero N s.now }
 {
-    let mut places = [0u8; 40];
-    let n = table::lesser(s.len(), 40);
-    let mut i = 0;
-    while i < n {
-        places[i] = s[i];
-        i += 1;
-    }
-    places
-}
-
-fn point_places(s: &[u8]) -> [u8; 256]
-    ensures { result ≡ placed 0 256 s.now }
-{
-    let mut places = [0u8; 256];
-    let n = table::lesser(s.len(), 256);
-    let mut i = 0;
-    while i < n {
-        places[i] = s[i];
-        i += 1;
-    }
-    places
-}
-
-fn bound_places(s: &[i32]) -> [i32; 256]
-    ensures { result ≡ placed (pos 0) 256 s.now }
-{
-    let mut places = [0i32; 256];
-    let n = table::lesser(s.len(), 256);
-    let mut i = 0;
-    while i < n {
-        let c = s[i];
-        places[i] = c;
-        i += 1;
-    }
-    places
-}
-
-fn tick_places(s: &[u32]) -> [u32; 40]
-    ensures { result ≡ placed 0 40 s.now }
-{
-    let mut places = [0u32; 40];
-    let n = table::lesser(s.len(), 40);
-    let mut i = 0;
-    while i < n {
-        places[i] = s[i];
-        i += 1;
-    }
-    places
-}
-
-fn count_places(s: &[u32]) -> [u32; 5]
-    ensures { result ≡ placed 0 5 s.now }
-{
-    let mut places = [0u32; 5];
-    let n = table::lesser(s.len(), 5);
-    let mut i = 0;
-    while i < n {
-        places[i] = s[i];
-        i += 1;
-    }
+    let mut places = [zero; N];
+    let n = s.len().min(N);
+    places[..n].copy_from_slice(&s[..n]);
     places
 }
 
@@ -207,18 +147,14 @@ fn ticket_of(
 ) -> ticket::Ticket
     ensures { result ≡ valued horizon events owners.now rules from.now to.now bound.now }
 {
-    let o = byte_places(owners);
-    let f = point_places(from);
-    let t = point_places(to);
-    let b = bound_places(bound);
     ticket::Ticket {
         horizon,
         events: events as usize,
-        owners: o,
+        owners: places(0, owners),
         rules: rules as usize,
-        from: f,
-        to: t,
-        bound: b,
+        from: places(0, from),
+        to: places(0, to),
+        bound: places(0, bound),
     }
 }
 
@@ -234,16 +170,15 @@ pub extern "C" fn harness_write_ticket(
     out: &mut [u8],
     size: &mut u32,
 ) -> u32
-    ensures value { result ≡ (written_of out.old (valued horizon events owners.now rules from.now to.now bound.now)).number }
+    ensures value { result ≡ answer_number (written_of out.old (valued horizon events owners.now rules from.now to.now bound.now)) }
     ensures out_after { out.new ≡ output_of out.old (valued horizon events owners.now rules from.now to.now bound.now) }
     ensures size_after { size.new
-        ≡ Rewriting·narrow (written_of out.old (valued horizon events owners.now rules from.now to.now bound.now)).length }
+        ≡ Rewriting·narrow (result_unwrap_or (written_of out.old (valued horizon events owners.now rules from.now to.now bound.now)) 0) }
 {
     let t = ticket_of(horizon, events, owners, rules, from, to, bound);
     let written = writing::write_ticket(t, out);
-    let n = written.length;
-    *size = narrow(n);
-    written.number
+    *size = narrow(written.unwrap_or(0));
+    ticket::answer_number(&written)
 }
 
 #[unsafe(no_mangle)]
@@ -262,30 +197,25 @@ pub extern "C" fn harness_write_record(
     out: &mut [u8],
     size: &mut u32,
 ) -> u32
-    ensures value { result ≡ (record_written out.old
+    ensures value { result ≡ answer_number (record_written out.old
         (recorded (valued horizon events owners.now rules from.now to.now bound.now)
-        flags.now opens.now closes.now counts.now)).number }
+        flags.now opens.now closes.now counts.now)) }
     ensures out_after { out.new ≡ record_output out.old
         (recorded (valued horizon events owners.now rules from.now to.now bound.now)
         flags.now opens.now closes.now counts.now) }
-    ensures size_after { size.new ≡ Rewriting·narrow (record_written out.old
+    ensures size_after { size.new ≡ Rewriting·narrow (result_unwrap_or (record_written out.old
         (recorded (valued horizon events owners.now rules from.now to.now bound.now)
-        flags.now opens.now closes.now counts.now)).length }
+        flags.now opens.now closes.now counts.now)) 0) }
 {
     let t = ticket_of(horizon, events, owners, rules, from, to, bound);
-    let f = byte_places(flags);
-    let o = tick_places(opens);
-    let c = tick_places(closes);
-    let k = count_places(counts);
     let record = ticket::Record {
         ticket: t,
-        flags: f,
-        opens: o,
-        closes: c,
-        counts: k,
+        flags: places(0, flags),
+        opens: places(0, opens),
+        closes: places(0, closes),
+        counts: places(0, counts),
     };
     let written = writing_records::write_record(record, out);
-    let n = written.length;
-    *size = narrow(n);
-    written.number
+    *size = narrow(written.unwrap_or(0));
+    ticket::answer_number(&written)
 }

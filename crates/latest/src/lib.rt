@@ -12,27 +12,26 @@ ghost use Rattle.latest.specs.Latest.{PlannedFor};
 // The windows of the latest plan; false where there is no schedule. The mirror is a ticket where every rule with the start can be kept.
 fn latest_windows(
     net: &mut [u32],
-    t: ticket::Ticket,
+    t: &ticket::Ticket,
     opens: &mut [u32; 40],
     closes: &mut [u32; 40],
 ) -> bool
-    requires valid { Valid (content t) }
-    requires workspace { Workspace t net.old opens.old closes.old }
-    ensures planned_for { PlannedFor true t opens.old closes.old opens.new closes.new result }
+    requires valid { Valid (content t.now) }
+    requires workspace { Workspace t.now net.old opens.old closes.old }
+    ensures planned_for { PlannedFor true t.now opens.old closes.old opens.new closes.new result }
     ensures net_len_unchanged { length net.new ≡ length net.old }
 {
-    if !mirror::all_possible(t) {
-        return false;
-    }
-    let mirrored = mirror::mirror_ticket(t);
-    if !windows::plan_windows(net, mirrored, opens, closes) {
+    if !mirror::all_possible(*t)
+        || !windows::plan_windows(net, mirror::mirror_ticket(*t), opens, closes)
+    {
         return false;
     }
     mirror::mirror_windows(t.horizon, t.events, opens, closes);
     true
 }
 
-// The windows of the plan, of the latest plan where `latest` says so; false where there is no schedule.
+// The windows of the plan, of the latest plan where `latest` says so; false where there is no schedule. `latest` is an input, of which the contract speaks
+// (`PlannedFor latest`); a plan as a closure would bring its whole contract along.
 pub fn plan_windows(
     net: &mut [u32],
     t: ticket::Ticket,
@@ -46,7 +45,8 @@ pub fn plan_windows(
     ensures net_len_unchanged { length net.new ≡ length net.old }
 {
     if latest {
-        return latest_windows(net, t, opens, closes);
+        latest_windows(net, &t, opens, closes)
+    } else {
+        windows::plan_windows(net, t, opens, closes)
     }
-    windows::plan_windows(net, t, opens, closes)
 }

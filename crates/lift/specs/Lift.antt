@@ -1,7 +1,9 @@
 -- Lifting a potential. Each node that is raised is as far above the tail of the demand as any potential has it at least, so where the head of the demand would
 -- have to rise too, no potential meets it; and the edges whose demands fail so far lead to nodes in the queue. Rests on network's Stored, Index and Grow.
-use Rattle.std.specs.Prelude.{ℕ, ◌+◌, ◌*◌, ◌-◌, ◌≤◌, ◌<◌, ◌≡◌, refl, List, ◌⊎◌, length, set}
-use Rattle.std.proofs.Common.{sym, ap, ◌∙◌, ⊎_elim, inl, inr, arith, eq-or-lt_of_le, length-set, get_or-set_same, get_or-set_other}
+use Rattle.std.specs.Prelude.{ℕ, ◌+◌, ◌*◌, ◌-◌, ◌≤◌, ◌<◌, ◌≡◌, refl, List, [], ◌∷◌, ◌++◌, ◌⊎◌, Result, Ok, Err, length, set}
+use Rattle.std.proofs.Common.{sym, ap, ◌∙◌, ⊎_elim, inl, inr, arith, eq-or-lt_of_le, length-append, length-set, get_or-set_same, get_or-set_other}
+use Rattle.std.proofs.Math.ListN.{get_or-append}
+use Rattle.std.proofs.Math.Seq.{get_or-append_seam}
 use Rattle.std.proofs.Math.Logic.{by_cases}
 use Rattle.std.proofs.Math.Decide.{ℕ_discrete, dec_lt}
 use Rattle.network.specs.Lists.{set_more}
@@ -9,24 +11,35 @@ use Rattle.network.specs.Network.{Meets}
 use Rattle.network.specs.Stored.{at, tail_of, head_of, cost_of, stored, Demand, Network, Potential}
 use Rattle.network.specs.Index.{end_of, Last, box_edge, Listed, Unlisted}
 use Rattle.network.specs.Grow.{Impossible}
+use Rattle.lift.specs.declared.Unmet.{Unmet}
+use Rattle.lift.specs.declared.Unmet.TheVariants.{Ring, GivenUp}
+
+-- how a step of a lift ends
+abbrev pub Ends : Type 0
+Ends = Result (Unit {0}) Unmet
+
+-- a step has one end
+ok_not_err : {A : Type 0} {r : Ends} {e : Unmet} → r ≡ Ok tt → r ≡ Err e → A
+ok_not_err p q = absurd cc
+
+ring_not_given_up : {A : Type 0} {r : Ends} → r ≡ Err Ring → r ≡ Err GivenUp → A
+ring_not_given_up p q = absurd cc
 
 -- ---- what the functions promise
 
--- edge e, whose head is v, is visited: its demand holds, its tail is raised and queued at t, its tail is b, or it is given up
-pub data Visited (net pot pot' queue queue' : List ℕ) (e v b t r : ℕ) : Type 0 where
-  met : r ≡ t → pot' ≡ pot → queue' ≡ queue → at pot v + 1000000 ≤ at pot (tail_of net e) + cost_of net e → Visited net pot pot' queue queue' e v b t r
-  raised : r ≡ t + 1 → pot' ≡ set pot (tail_of net e) (at pot v + 1000000 - cost_of net e) → queue' ≡ set queue t (tail_of net e) → (tail_of net e ≡ b → ⊥)
-      → at pot (tail_of net e) + cost_of net e < at pot v + 1000000 → t < 400 → at pot v + 1000000 ≤ 4000000 + cost_of net e → Visited net pot pot' queue queue' e v b t r
-  ring : r ≡ 600 → tail_of net e ≡ b → at pot (tail_of net e) + cost_of net e < at pot v + 1000000 → Visited net pot pot' queue queue' e v b t r
-  given_up : r ≡ 601 → Visited net pot pot' queue queue' e v b t r
+-- edge e, whose head is v, is visited: its demand holds, its tail is raised and put into the queue, its tail is b, or it is given up
+pub data Visited (net pot pot' queue queue' : List ℕ) (e v b : ℕ) (r : Ends) : Type 0 where
+  met : r ≡ Ok tt → pot' ≡ pot → queue' ≡ queue → at pot v + 1000000 ≤ at pot (tail_of net e) + cost_of net e → Visited net pot pot' queue queue' e v b r
+  raised : r ≡ Ok tt → pot' ≡ set pot (tail_of net e) (at pot v + 1000000 - cost_of net e) → queue' ≡ queue ++ tail_of net e ∷ [] → (tail_of net e ≡ b → ⊥)
+      → at pot (tail_of net e) + cost_of net e < at pot v + 1000000 → at pot v + 1000000 ≤ 4000000 + cost_of net e → Visited net pot pot' queue queue' e v b r
+  ring : r ≡ Err Ring → tail_of net e ≡ b → at pot (tail_of net e) + cost_of net e < at pot v + 1000000 → Visited net pot pot' queue queue' e v b r
+  given_up : r ≡ Err GivenUp → Visited net pot pot' queue queue' e v b r
 
--- t nodes are queued, and no node is too high
-pub record Ready (nodes : ℕ) (pot queue : List ℕ) (t : ℕ) : Type 0 where
+-- the nodes in the queue are nodes, and none is too high
+pub record Ready (nodes : ℕ) (pot queue : List ℕ) : Type 0 where
   pub long : length pot ≡ 81
   pub small : (v : ℕ) → v < nodes → at pot v ≤ 4000000
-  pub size : length queue ≡ 400
-  pub count : t ≤ 400
-  pub queued : (k : ℕ) → k < t → at queue k < nodes
+  pub queued : (k : ℕ) → k < length queue → at queue k < nodes
 
 abbrev pub MeetsAll : List ℕ → ℕ → (ℕ → ℕ) → Type 0
 MeetsAll net m q = (e : ℕ) → e < m → Meets (stored 0 0 net) q e
@@ -40,13 +53,13 @@ pub record Lifting (net : List ℕ) (m nodes : ℕ) (old : List ℕ) (a b top : 
   pub forced : (v : ℕ) → v < nodes → (at pot v ≡ at old v) ⊎ ((q : ℕ → ℕ) → MeetsAll net m q → q a + at pot v ≤ q v + top)
 
 -- the demand of edge e holds, or its head waits in the queue from s on, or it is one of C, which are still to be visited
-pub data Edge (net pot queue : List ℕ) (s t : ℕ) (C : ℕ → Type 0) (e : ℕ) : Type 0 where
-  holds : Demand net pot e → Edge net pot queue s t C e
-  waits : (k : ℕ) → s ≤ k → k < t → at queue k ≡ head_of net e → Edge net pot queue s t C e
-  comes : C e → Edge net pot queue s t C e
+pub data Edge (net pot queue : List ℕ) (s : ℕ) (C : ℕ → Type 0) (e : ℕ) : Type 0 where
+  holds : Demand net pot e → Edge net pot queue s C e
+  waits : (k : ℕ) → s ≤ k → k < length queue → at queue k ≡ head_of net e → Edge net pot queue s C e
+  comes : C e → Edge net pot queue s C e
 
-abbrev pub Edges : List ℕ → ℕ → (pot queue : List ℕ) → (s t : ℕ) → (ℕ → Type 0) → Type 0
-Edges net m pot queue s t C = (e : ℕ) → e < m → Edge net pot queue s t C e
+abbrev pub AllEdges : List ℕ → ℕ → (pot queue : List ℕ) → ℕ → (ℕ → Type 0) → Type 0
+AllEdges net m pot queue s C = (e : ℕ) → e < m → Edge net pot queue s C e
 
 -- the edges whose head is v; none
 abbrev pub AtNode : List ℕ → ℕ → ℕ → Type 0
@@ -59,50 +72,42 @@ NoEdge e = ⊥
 abbrev pub Blocked : List ℕ → ℕ → List ℕ → (a b top : ℕ) → Type 0
 Blocked net m old a b top = (q : ℕ → ℕ) → MeetsAll net m q → q a + at old b < q b + top
 
--- edges are visited, after which C' are left of C; above 400 the answer ends the lift
-pub record Passes (net : List ℕ) (m nodes b : ℕ) (pot queue : List ℕ) (t : ℕ) (pot' queue' : List ℕ) (r : ℕ) (C C' : ℕ → Type 0) : Type 0 where
-  pub ready : r ≤ 400 → Ready nodes pot' queue' r × (t ≤ r)
-  pub lifts : r ≤ 400 → (old : List ℕ) (a top : ℕ) → Lifting net m nodes old a b top pot → Lifting net m nodes old a b top pot'
-  pub edges : r ≤ 400 → (s : ℕ) → s ≤ t → Edges net m pot queue s t C → Edges net m pot' queue' s r C'
-  pub blocks : r ≡ 600 → (old : List ℕ) (a top : ℕ) → Lifting net m nodes old a b top pot → Blocked net m old a b top
+-- edges are visited, after which C' are left of C
+pub record Passes (net : List ℕ) (m nodes b : ℕ) (pot queue pot' queue' : List ℕ) (r : Ends) (C C' : ℕ → Type 0) : Type 0 where
+  pub ready : r ≡ Ok tt → Ready nodes pot' queue' × (length queue ≤ length queue')
+  pub lifts : r ≡ Ok tt → (old : List ℕ) (a top : ℕ) → Lifting net m nodes old a b top pot → Lifting net m nodes old a b top pot'
+  pub edges : r ≡ Ok tt → (s : ℕ) → s ≤ length queue → AllEdges net m pot queue s C → AllEdges net m pot' queue' s C'
+  pub blocks : r ≡ Err Ring → (old : List ℕ) (a top : ℕ) → Lifting net m nodes old a b top pot → Blocked net m old a b top
 
 -- all that follows from the first node in the queue is raised
-pub record Spread (net : List ℕ) (m nodes b : ℕ) (pot queue pot' : List ℕ) (r : ℕ) : Type 0 where
-  pub long : r ≤ 400 → length pot' ≡ 81
-  pub lifts : r ≤ 400 → (old : List ℕ) (a top : ℕ) → Lifting net m nodes old a b top pot → Lifting net m nodes old a b top pot'
-  pub demands : r ≤ 400 → Edges net m pot queue 0 1 NoEdge → (e : ℕ) → e < m → Demand net pot' e
-  pub blocks : r ≡ 600 → (old : List ℕ) (a top : ℕ) → Lifting net m nodes old a b top pot → Blocked net m old a b top
+pub record Spread (net : List ℕ) (m nodes b : ℕ) (pot queue pot' : List ℕ) (r : Ends) : Type 0 where
+  pub long : r ≡ Ok tt → length pot' ≡ 81
+  pub lifts : r ≡ Ok tt → (old : List ℕ) (a top : ℕ) → Lifting net m nodes old a b top pot → Lifting net m nodes old a b top pot'
+  pub demands : r ≡ Ok tt → AllEdges net m pot queue 0 NoEdge → (e : ℕ) → e < m → Demand net pot' e
+  pub blocks : r ≡ Err Ring → (old : List ℕ) (a top : ℕ) → Lifting net m nodes old a b top pot → Blocked net m old a b top
 
 -- all nodes are lowered by the potential of the origin
 pub record Shifted (pot pot' : List ℕ) (nodes : ℕ) : Type 0 where
   pub long : length pot' ≡ length pot
   pub lowered : (v : ℕ) → v < nodes → at pot' v + at pot 0 ≡ at pot v
 
--- 0: the demand holds, beside those of the edges; 1: no potential meets it; 2: it was given up
-pub record Lifts (net : List ℕ) (m nodes : ℕ) (pot pot' : List ℕ) (a b c r : ℕ) : Type 0 where
-  pub range : r ≤ 2
-  pub long : r ≡ 0 → length pot' ≡ 81
-  pub origin : r ≡ 0 → at pot' 0 ≡ 0
-  pub feasible : r ≡ 0 → (e : ℕ) → e < m → Demand net pot' e
-  pub held : r ≡ 0 → at pot' b + 1000000 ≤ at pot' a + c
-  pub kept : (r ≡ 0 → ⊥) → pot' ≡ pot
-  pub impossible : r ≡ 1 → Impossible net m a b c
+-- the demand holds, beside those of the edges, or Ring: no potential meets it, or GivenUp: it was given up
+pub record Lifts (net : List ℕ) (m nodes : ℕ) (pot pot' : List ℕ) (a b c : ℕ) (r : Ends) : Type 0 where
+  pub long : r ≡ Ok tt → length pot' ≡ 81
+  pub origin : r ≡ Ok tt → at pot' 0 ≡ 0
+  pub feasible : r ≡ Ok tt → (e : ℕ) → e < m → Demand net pot' e
+  pub held : r ≡ Ok tt → at pot' b + 1000000 ≤ at pot' a + c
+  pub kept : (r ≡ Ok tt → ⊥) → pot' ≡ pot
+  pub impossible : r ≡ Err Ring → Impossible net m a b c
 
 -- ---- a visit
 
-module _ {net : List ℕ} {m nodes : ℕ} (N : Network net m nodes) {pot queue : List ℕ} {t : ℕ} (R : Ready nodes pot queue t) {e v : ℕ} (le : e < m) (hv : head_of net e ≡ v) (lv : v < nodes) where
+module _ {net : List ℕ} {m nodes : ℕ} (N : Network net m nodes) {pot queue : List ℕ} (R : Ready nodes pot queue) {e v : ℕ} (le : e < m) (hv : head_of net e ≡ v) (lv : v < nodes) where
   abbrev u : ℕ
   u = tail_of net e
 
   abbrev y : ℕ
   y = at pot v + 1000000 - cost_of net e
-
-  -- what it asks
-  pub visit_asks : ((4 * e + 3 < length net) × (u < 81) × (v < 81) × (cost_of net e ≤ 2000000)) × ((at pot u ≤ 4000000) × (at pot v ≤ 4000000) × (t ≤ 400))
-  visit_asks = (
-    (omega (arith, N.size, le), omega (arith, N.tails e le, N.few), omega (arith, N.few, lv), N.costs e le),
-    (R.small u (N.tails e le), R.small v lv, R.count),
-  )
 
   here : at (set pot u y) u ≡ y
   here = get_or-set_same pot u y 0 (omega (arith, N.tails e le, N.few, R.long))
@@ -141,19 +146,24 @@ module _ {net : List ℕ} {m nodes : ℕ} (N : Network net m nodes) {pot queue :
           }
 
     -- the tail waits in the queue
-    tail_ready : t < 400 → at pot v + 1000000 ≤ 4000000 + cost_of net e → Ready nodes (set pot u y) (set queue t u) (t + 1)
-    tail_ready lt high =
+    tail_ready : at pot v + 1000000 ≤ 4000000 + cost_of net e → Ready nodes (set pot u y) (queue ++ u ∷ [])
+    tail_ready high =
         record {
           long = simp length-set R.long;
           small = λ w lw. by_cases (ℕ_discrete w u)
               (λ s. rw (s, here) (omega (arith, high)))
               (λ n. rw (there w n) (R.small w lw));
-          size = simp length-set R.size;
-          count = omega (arith, lt);
-          queued = set_more (λ k z. z < nodes) queue t u (omega (arith, R.size, lt)) R.queued (N.tails e le);
+          queued = λ k lk. by_cases (ℕ_discrete k (length queue))
+              (λ s. rw (s, get_or-append_seam queue u [] 0) (N.tails e le))
+              (λ n.
+              let l : k < length queue = omega (arith, longer, lk, n) in
+              rw (get_or-append queue (u ∷ []) 0 k l) (R.queued k l));
         }
+      where
+        longer : length (queue ++ u ∷ []) ≡ length queue + 1
+        longer = length-append queue (u ∷ [])
 
-    module _ {C C' : ℕ → Type 0} (cover : (f : ℕ) → f < m → C f → (f ≡ e) ⊎ C' f) (s : ℕ) (ls : s ≤ t) where
+    module _ {C C' : ℕ → Type 0} (cover : (f : ℕ) → f < m → C f → (f ≡ e) ⊎ C' f) (s : ℕ) (ls : s ≤ length queue) where
       -- an edge into it waits with it, and any other has its demand as before or better
       rest_holds : (f : ℕ) → f < m → (head_of net f ≡ u → ⊥) → Demand net pot f → Demand net (set pot u y) f
       rest_holds f lf n d =
@@ -161,88 +171,91 @@ module _ {net : List ℕ} {m nodes : ℕ} (N : Network net m nodes) {pot queue :
           (λ s. rw (there (head_of net f) n) (omega (arith, d, x, ap (at (set pot u y)) s, here, ap (at pot) s)))
           (λ o. rw (there (head_of net f) n, there (tail_of net f) o) d)
 
-      by_head : (f : ℕ) → t < 400 → ((head_of net f ≡ u → ⊥) → Edge net (set pot u y) (set queue t u) s (t + 1) C' f) → Edge net (set pot u y) (set queue t u) s (t + 1) C' f
-      by_head f lt other =
+      longer : length (queue ++ u ∷ []) ≡ length queue + 1
+      longer = length-append queue (u ∷ [])
+
+      by_head : (f : ℕ) → ((head_of net f ≡ u → ⊥) → Edge net (set pot u y) (queue ++ u ∷ []) s C' f) → Edge net (set pot u y) (queue ++ u ∷ []) s C' f
+      by_head f other =
           by_cases (ℕ_discrete (head_of net f) u)
-          (λ q. waits t ls (omega arith) (get_or-set_same queue t u 0 (omega (arith, R.size, lt)) ∙ sym q))
+          (λ q. waits (length queue) ls (omega (arith, longer)) (get_or-append_seam queue u [] 0 ∙ sym q))
           other
 
-      tail_edges : t < 400 → Edges net m pot queue s t C → Edges net m (set pot u y) (set queue t u) s (t + 1) C'
-      tail_edges lt E f lf = go (E f lf)
+      tail_edges : AllEdges net m pot queue s C → AllEdges net m (set pot u y) (queue ++ u ∷ []) s C'
+      tail_edges E f lf = go (E f lf)
         where
-          go : Edge net pot queue s t C f → Edge net (set pot u y) (set queue t u) s (t + 1) C' f
-          go (holds d) = by_head f lt (λ n. holds (rest_holds f lf n d))
-          go (waits k lk kt q) = waits k lk (omega (arith, kt)) (get_or-set_other queue t k u 0 (λ z. omega (arith, kt, z)) ∙ q)
+          go : Edge net pot queue s C f → Edge net (set pot u y) (queue ++ u ∷ []) s C' f
+          go (holds d) = by_head f (λ n. holds (rest_holds f lf n d))
+          go (waits k lk kt q) = waits k lk (omega (arith, kt, longer)) (get_or-append queue (u ∷ []) 0 k kt ∙ q)
           go (comes c) = ⊎_elim
-              (λ (z : f ≡ e). by_head f lt (λ n. holds (rw (z, there (head_of net e) (λ w. n (ap (head_of net) z ∙ w)), here, hv) (omega (arith, x)))))
+              (λ (z : f ≡ e). by_head f (λ n. holds (rw (z, there (head_of net e) (λ w. n (ap (head_of net) z ∙ w)), here, hv) (omega (arith, x)))))
               (λ (c' : C' f). comes c')
               (cover f lf c)
 
-  pub visit_passes : {pot' queue' : List ℕ} {b r : ℕ} {C C' : ℕ → Type 0} → Visited net pot pot' queue queue' e v b t r → ((f : ℕ) → f < m → C f → (f ≡ e) ⊎ C' f)
-      → Passes net m nodes b pot queue t pot' queue' r C C'
+  pub visit_passes : {pot' queue' : List ℕ} {b : ℕ} {r : Ends} {C C' : ℕ → Type 0} → Visited net pot pot' queue queue' e v b r → ((f : ℕ) → f < m → C f → (f ≡ e) ⊎ C' f)
+      → Passes net m nodes b pot queue pot' queue' r C C'
   visit_passes {C = C} {C' = C'} (met z p q d) cover = record {
-    ready = λ l. (rw (z, p, q) R, omega (arith, z));
+    ready = λ l. (rw (p, q) R, rw q (omega arith));
     lifts = λ l old a top L. rw p L;
-    edges = λ l s ls E f lf. rw (z, p, q) (go s f lf (E f lf));
-    blocks = λ w. absurd (omega (arith, w, z, R.count));
+    edges = λ l s ls E f lf. rw (p, q) (go s f lf (E f lf));
+    blocks = λ w. ok_not_err z w;
   }
     where
-      go : (s f : ℕ) → f < m → Edge net pot queue s t C f → Edge net pot queue s t C' f
+      go : (s f : ℕ) → f < m → Edge net pot queue s C f → Edge net pot queue s C' f
       go s f lf (holds d') = holds d'
       go s f lf (waits k lk kt q') = waits k lk kt q'
       go s f lf (comes c) = ⊎_elim (λ (z' : f ≡ e). holds (rw (z', hv) d)) (λ (c' : C' f). comes c') (cover f lf c)
-  visit_passes (raised z p q other x lt high) cover = record {
-    ready = λ l. (rw (z, p, q) (tail_ready x lt high), omega (arith, z));
+  visit_passes (raised z p q other x high) cover = record {
+    ready = λ l. (rw (p, q) (tail_ready x high), rw q (omega (arith, length-append queue (u ∷ []))));
     lifts = λ l old a top L. rw p (tail_lifted x L other);
-    edges = λ l s ls E. rw (z, p, q) (tail_edges x cover s ls lt E);
-    blocks = λ w. absurd (omega (arith, w, z, lt));
+    edges = λ l s ls E. rw (p, q) (tail_edges x cover s ls E);
+    blocks = λ w. ok_not_err z w;
   }
   visit_passes (ring z same x) cover = record {
-    ready = λ l. absurd (omega (arith, l, z));
-    lifts = λ l. absurd (omega (arith, l, z));
-    edges = λ l. absurd (omega (arith, l, z));
+    ready = λ l. ok_not_err l z;
+    lifts = λ l. ok_not_err l z;
+    edges = λ l. ok_not_err l z;
     blocks = λ w old a top L. tail_blocked x L same;
   }
   visit_passes (given_up z) cover = record {
-    ready = λ l. absurd (omega (arith, l, z));
-    lifts = λ l. absurd (omega (arith, l, z));
-    edges = λ l. absurd (omega (arith, l, z));
-    blocks = λ w. absurd (omega (arith, w, z));
+    ready = λ l. ok_not_err l z;
+    lifts = λ l. ok_not_err l z;
+    edges = λ l. ok_not_err l z;
+    blocks = λ w. ring_not_given_up w z;
   }
 
 -- ---- several visits
 
-pub passes_none : {net : List ℕ} {m nodes b : ℕ} {pot queue : List ℕ} {t : ℕ} {C C' : ℕ → Type 0} → Ready nodes pot queue t → ((f : ℕ) → f < m → C f → C' f)
-    → Passes net m nodes b pot queue t pot queue t C C'
-passes_none {net} {m} {pot = pot} {queue = queue} {t = t} {C = C} {C' = C'} R cover = record {
+pub passes_none : {net : List ℕ} {m nodes b : ℕ} {pot queue : List ℕ} {C C' : ℕ → Type 0} → Ready nodes pot queue → ((f : ℕ) → f < m → C f → C' f)
+    → Passes net m nodes b pot queue pot queue (Ok tt) C C'
+passes_none {net} {m} {pot = pot} {queue = queue} {C = C} {C' = C'} R cover = record {
   ready = λ l. (R, omega arith);
   lifts = λ l old a top L. L;
   edges = λ l s ls E f lf. go s f lf (E f lf);
-  blocks = λ w. absurd (omega (arith, w, R.count));
+  blocks = λ w. ok_not_err refl w;
 }
   where
-    go : (s f : ℕ) → f < m → Edge net pot queue s t C f → Edge net pot queue s t C' f
+    go : (s f : ℕ) → f < m → Edge net pot queue s C f → Edge net pot queue s C' f
     go s f lf (holds d) = holds d
     go s f lf (waits k lk kt q) = waits k lk kt q
     go s f lf (comes c) = comes (cover f lf c)
 
-pub passes_then : {net : List ℕ} {m nodes b : ℕ} {pot queue : List ℕ} {t : ℕ} {pot₁ queue₁ : List ℕ} {t₁ : ℕ} {pot₂ queue₂ : List ℕ} {r : ℕ} {C C₁ C₂ : ℕ → Type 0}
-    → Passes net m nodes b pot queue t pot₁ queue₁ t₁ C C₁ → t₁ ≤ 400 → Passes net m nodes b pot₁ queue₁ t₁ pot₂ queue₂ r C₁ C₂
-    → Passes net m nodes b pot queue t pot₂ queue₂ r C C₂
-passes_then P l Q = record {
-  ready = λ w. ((Q.ready w).0, omega (arith, (P.ready l).1, (Q.ready w).1));
-  lifts = λ w old a top L. Q.lifts w old a top (P.lifts l old a top L);
-  edges = λ w s ls E. Q.edges w s (omega (arith, ls, (P.ready l).1)) (P.edges l s ls E);
-  blocks = λ w old a top L. Q.blocks w old a top (P.lifts l old a top L);
+pub passes_then : {net : List ℕ} {m nodes b : ℕ} {pot queue pot₁ queue₁ pot₂ queue₂ : List ℕ} {r : Ends} {C C₁ C₂ : ℕ → Type 0}
+    → Passes net m nodes b pot queue pot₁ queue₁ (Ok tt) C C₁ → Passes net m nodes b pot₁ queue₁ pot₂ queue₂ r C₁ C₂
+    → Passes net m nodes b pot queue pot₂ queue₂ r C C₂
+passes_then P Q = record {
+  ready = λ w. ((Q.ready w).0, omega (arith, (P.ready refl).1, (Q.ready w).1));
+  lifts = λ w old a top L. Q.lifts w old a top (P.lifts refl old a top L);
+  edges = λ w s ls E. Q.edges w s (omega (arith, ls, (P.ready refl).1)) (P.edges refl s ls E);
+  blocks = λ w old a top L. Q.blocks w old a top (P.lifts refl old a top L);
 }
 
--- an answer that ends the lift leaves whatever edges
-pub passes_ends : {net : List ℕ} {m nodes b : ℕ} {pot queue : List ℕ} {t : ℕ} {pot' queue' : List ℕ} {r : ℕ} {C C₁ C₂ : ℕ → Type 0}
-    → Passes net m nodes b pot queue t pot' queue' r C C₁ → 400 < r → Passes net m nodes b pot queue t pot' queue' r C C₂
-passes_ends P w = record {
-  ready = λ l. absurd (omega (arith, l, w));
-  lifts = λ l. absurd (omega (arith, l, w));
-  edges = λ l. absurd (omega (arith, l, w));
+-- an error leaves whatever edges
+pub passes_ends : {net : List ℕ} {m nodes b : ℕ} {pot queue pot' queue' : List ℕ} {e : Unmet} {C C₁ C₂ : ℕ → Type 0}
+    → Passes net m nodes b pot queue pot' queue' (Err e) C C₁ → Passes net m nodes b pot queue pot' queue' (Err e) C C₂
+passes_ends P = record {
+  ready = λ l. ok_not_err l refl;
+  lifts = λ l. ok_not_err l refl;
+  edges = λ l. ok_not_err l refl;
   blocks = P.blocks;
 }
 
@@ -298,20 +311,30 @@ module _ {net : List ℕ} {m base v : ℕ} where
     λ f lf h. by_cases (dec_lt f x) (λ b. (h, b)) (λ n. absurd (l.none f h.0 (omega arith) lf h.1)),
   )
 
-  pub list_step : {x y : ℕ} → 0 < x → end_of net 1 (x - 1) ≡ v → Last net base 1 (end_of net 1 (x - 1)) (x - 1) y
-      → (f : ℕ) → f < m → ListedBelow net base v x f → (f ≡ x - 1) ⊎ ListedBelow net base v y f
-  list_step {x} {y} p q l f lf h =
-      by_cases (ℕ_discrete f (x - 1))
-      (λ z. inl z)
-      (λ n. inr (h.0, by_cases (dec_lt f y) (λ b. b) (λ o. absurd (l.none f h.0.0 (omega arith) (omega (arith, h.1, n)) (h.0.1 ∙ sym q)))))
+  module _ (e : ℕ) (U : Unlisted net m base 1 v (e + 1)) where
+    pub list_edge : (e < m) × (base ≤ e) × (head_of net e ≡ v)
+    list_edge =
+        let same : e + 1 - 1 ≡ e = omega arith in
+        let h = U.hit (omega arith) in
+        (omega (arith, U.below), omega (arith, h.0), rw same at h.1)
+
+    pub list_step : {y : ℕ} → Last net base 1 (end_of net 1 e) e y
+        → Unlisted net m base 1 v y × ((f : ℕ) → f < m → ListedBelow net base v (e + 1) f → (f ≡ e) ⊎ ListedBelow net base v y f)
+    list_step {y} l =
+        let here = list_edge in (
+          record { below = omega (arith, here.0, l.below); hit = λ p. ((l.hit p).0, (l.hit p).1 ∙ here.2) },
+          λ f lf h. by_cases (ℕ_discrete f e)
+              (λ z. inl z)
+              (λ n. inr (h.0, by_cases (dec_lt f y) (λ b. b) (λ o. absurd (l.none f h.0.0 (omega arith) (omega (arith, h.1, n)) (h.0.1 ∙ sym here.2))))),
+        )
 
 -- ---- the queue
 
 -- the edges into the next node in the queue are still to be visited
-pub edges_next : {net : List ℕ} {m : ℕ} {pot queue : List ℕ} {s t : ℕ} → Edges net m pot queue s t NoEdge → Edges net m pot queue (s + 1) t (AtNode net (at queue s))
-edges_next {net} {pot = pot} {queue = queue} {s = s} {t = t} E f lf = go (E f lf)
+pub edges_next : {net : List ℕ} {m : ℕ} {pot queue : List ℕ} {s : ℕ} → AllEdges net m pot queue s NoEdge → AllEdges net m pot queue (s + 1) (AtNode net (at queue s))
+edges_next {net} {pot = pot} {queue = queue} {s = s} E f lf = go (E f lf)
   where
-    go : Edge net pot queue s t NoEdge f → Edge net pot queue (s + 1) t (AtNode net (at queue s)) f
+    go : Edge net pot queue s NoEdge f → Edge net pot queue (s + 1) (AtNode net (at queue s)) f
     go (holds d) = holds d
     go (waits k lk kt q) =
         ⊎_elim
@@ -321,48 +344,48 @@ edges_next {net} {pot = pot} {queue = queue} {s = s} {t = t} E f lf = go (E f lf
     go (comes c) = absurd c
 
 -- where none waits, all demands hold
-pub edges_hold : {net : List ℕ} {m : ℕ} {pot queue : List ℕ} {s t : ℕ} → t ≤ s → Edges net m pot queue s t NoEdge → (e : ℕ) → e < m → Demand net pot e
-edges_hold {net} {pot = pot} {queue = queue} {s = s} {t = t} l E e le = go (E e le)
+pub edges_hold : {net : List ℕ} {m : ℕ} {pot queue : List ℕ} {s : ℕ} → length queue ≤ s → AllEdges net m pot queue s NoEdge → (e : ℕ) → e < m → Demand net pot e
+edges_hold {net} {pot = pot} {queue = queue} {s = s} l E e le = go (E e le)
   where
-    go : Edge net pot queue s t NoEdge e → Demand net pot e
+    go : Edge net pot queue s NoEdge e → Demand net pot e
     go (holds d) = d
     go (waits k lk kt q) = absurd (omega (arith, l, lk, kt))
     go (comes c) = absurd c
 
 -- the nodes in the queue below s are done
-pub record Going (net : List ℕ) (m nodes b : ℕ) (pot queue pot' queue' : List ℕ) (s t : ℕ) : Type 0 where
-  pub ready : Ready nodes pot' queue' t
-  pub place : s ≤ t
+pub record Going (net : List ℕ) (m nodes b : ℕ) (pot queue pot' queue' : List ℕ) (s : ℕ) : Type 0 where
+  pub ready : Ready nodes pot' queue'
+  pub place : s ≤ length queue'
   pub lifts : (old : List ℕ) (a top : ℕ) → Lifting net m nodes old a b top pot → Lifting net m nodes old a b top pot'
-  pub edges : Edges net m pot queue 0 1 NoEdge → Edges net m pot' queue' s t NoEdge
+  pub edges : AllEdges net m pot queue 0 NoEdge → AllEdges net m pot' queue' s NoEdge
 
-pub going_start : {net : List ℕ} {m nodes b : ℕ} {pot queue : List ℕ} → Ready nodes pot queue 1 → Going net m nodes b pot queue pot queue 0 1
+pub going_start : {net : List ℕ} {m nodes b : ℕ} {pot queue : List ℕ} → Ready nodes pot queue → Going net m nodes b pot queue pot queue 0
 going_start R = record { ready = R; place = omega arith; lifts = λ old a top L. L; edges = λ E. E }
 
-module _ {net : List ℕ} {m nodes b : ℕ} {pot queue pot₁ queue₁ : List ℕ} {s t : ℕ} (G : Going net m nodes b pot queue pot₁ queue₁ s t) where
-  module _ (l : s < t) {pot₂ queue₂ : List ℕ} {r : ℕ} (P : Passes net m nodes b pot₁ queue₁ t pot₂ queue₂ r (AtNode net (at queue₁ s)) NoEdge) where
-    pub going_next : r ≤ 400 → Going net m nodes b pot queue pot₂ queue₂ (s + 1) r
-    going_next w = record {
-      ready = (P.ready w).0;
-      place = omega (arith, l, (P.ready w).1);
-      lifts = λ old a top L. P.lifts w old a top (G.lifts old a top L);
-      edges = λ E. P.edges w (s + 1) (omega (arith, l)) (edges_next (G.edges E));
+module _ {net : List ℕ} {m nodes b : ℕ} {pot queue pot₁ queue₁ : List ℕ} {s : ℕ} (G : Going net m nodes b pot queue pot₁ queue₁ s) where
+  module _ {pot₂ queue₂ : List ℕ} where
+    pub going_next : s < length queue₁ → Passes net m nodes b pot₁ queue₁ pot₂ queue₂ (Ok tt) (AtNode net (at queue₁ s)) NoEdge → Going net m nodes b pot queue pot₂ queue₂ (s + 1)
+    going_next l P = record {
+      ready = (P.ready refl).0;
+      place = omega (arith, l, (P.ready refl).1);
+      lifts = λ old a top L. P.lifts refl old a top (G.lifts old a top L);
+      edges = λ E. P.edges refl (s + 1) (omega (arith, l)) (edges_next (G.edges E));
     }
 
-    pub going_ends : 400 < r → Spread net m nodes b pot queue pot₂ r
-    going_ends w = record {
-      long = λ z. absurd (omega (arith, w, z));
-      lifts = λ z. absurd (omega (arith, w, z));
-      demands = λ z. absurd (omega (arith, w, z));
+    pub going_ends : {e : Unmet} {C : ℕ → Type 0} → Passes net m nodes b pot₁ queue₁ pot₂ queue₂ (Err e) C NoEdge → Spread net m nodes b pot queue pot₂ (Err e)
+    going_ends P = record {
+      long = λ z. ok_not_err z refl;
+      lifts = λ z. ok_not_err z refl;
+      demands = λ z. ok_not_err z refl;
       blocks = λ z old a top L. P.blocks z old a top (G.lifts old a top L);
     }
 
-  pub going_done : t ≤ s → Spread net m nodes b pot queue pot₁ t
+  pub going_done : length queue₁ ≤ s → Spread net m nodes b pot queue pot₁ (Ok tt)
   going_done w = record {
     long = λ z. G.ready.long;
     lifts = λ z. G.lifts;
     demands = λ z E. edges_hold w (G.edges E);
-    blocks = λ z. absurd (omega (arith, z, G.ready.count));
+    blocks = λ z. ok_not_err refl z;
   }
 
 -- ---- the lift
@@ -378,15 +401,13 @@ module _ {net : List ℕ} {m nodes : ℕ} (N : Network net m nodes) {pot : List 
   others : (v : ℕ) → (v ≡ a → ⊥) → at (set pot a top) v ≡ at pot v
   others v n = get_or-set_other pot a v top 0 n
 
-  pub start_ready : (queue : List ℕ) → length queue ≡ 400 → at queue 0 ≡ a → Ready nodes (set pot a top) queue 1
-  start_ready queue long q = record {
+  pub start_ready : Ready nodes (set pot a top) (a ∷ [])
+  start_ready = record {
     long = simp length-set P.long;
     small = λ v lv. by_cases (ℕ_discrete v a) (λ s. rw (s, first) (omega (arith, bound b lb))) (λ n. rw (others v n) (omega (arith, bound v lv)));
-    size = long;
-    count = omega arith;
     queued = λ k l.
         let z : k ≡ 0 = omega (arith, l) in
-        rw (z, q) la;
+        rw z la;
   }
 
   start_lifting : Lifting net m nodes pot a b top (set pot a top)
@@ -398,58 +419,55 @@ module _ {net : List ℕ} {m nodes : ℕ} (N : Network net m nodes) {pot : List 
     forced = λ v lv. by_cases (ℕ_discrete v a) (λ s. inr (λ q h. rw (s, first) (omega arith))) (λ n. inl (others v n));
   }
 
-  start_edges : (queue : List ℕ) → at queue 0 ≡ a → Edges net m (set pot a top) queue 0 1 NoEdge
-  start_edges queue q e le =
+  start_edges : AllEdges net m (set pot a top) (a ∷ []) 0 NoEdge
+  start_edges e le =
       by_cases (ℕ_discrete (head_of net e) a)
-      (λ s. waits 0 (omega arith) (omega arith) (q ∙ sym s))
+      (λ s. waits 0 (omega arith) (omega arith) (sym s))
       (λ n. holds (by_cases (ℕ_discrete (tail_of net e) a)
       (λ s. rw (others (head_of net e) n) (omega (arith, P.feasible e le, fails, ap (at (set pot a top)) s, first, ap (at pot) s)))
       (λ o. rw (others (head_of net e) n, others (tail_of net e) o) (P.feasible e le))))
 
-  module _ {queue pot' : List ℕ} {r : ℕ} (q : at queue 0 ≡ a) (S : Spread net m nodes b (set pot a top) queue pot' r) where
-    spread_lifting : r ≤ 400 → Lifting net m nodes pot a b top pot'
-    spread_lifting w = S.lifts w pot a top start_lifting
+  module _ {pot' : List ℕ} (S : Spread net m nodes b (set pot a top) (a ∷ []) pot' (Ok tt)) where
+    spread_lifting : Lifting net m nodes pot a b top pot'
+    spread_lifting = S.lifts refl pot a top start_lifting
 
     -- the box of a node keeps it above the origin
-    pub spread_low : r ≤ 400 → (v : ℕ) → v < nodes → at pot' 0 ≤ at pot' v
-    spread_low w v lv = by_cases (ℕ_discrete v 0)
+    pub spread_low : (v : ℕ) → v < nodes → at pot' 0 ≤ at pot' v
+    spread_low v lv = by_cases (ℕ_discrete v 0)
         (λ z. rw z (omega arith))
         (λ n.
         let p : 0 < v = omega (arith, n) in
         let d = N.down v lv p in
-        omega (arith, rw (d.0, d.1) at (S.demands w (start_edges queue q) (2 * v - 2) (omega (arith, N.links v lv p))), d.2))
+        omega (arith, rw (d.0, d.1) at (S.demands refl start_edges (2 * v - 2) (omega (arith, N.links v lv p))), d.2))
 
-    pub lift_held : r ≤ 400 → {pot'' : List ℕ} → Shifted pot' pot'' nodes → Lifts net m nodes pot pot'' a b c 0
-    lift_held w {pot''} T = record {
-      range = omega arith;
-      long = λ z. T.long ∙ S.long w;
+    pub lift_held : {pot'' : List ℕ} → Shifted pot' pot'' nodes → Lifts net m nodes pot pot'' a b c (Ok tt)
+    lift_held T = record {
+      long = λ z. T.long ∙ S.long refl;
       origin = λ z. omega (arith, T.lowered 0 N.some);
-      feasible = λ z e le. omega (arith, S.demands w (start_edges queue q) e le, T.lowered (head_of net e) (N.heads e le), T.lowered (tail_of net e) (N.tails e le));
-      held = λ z. omega (arith, T.lowered a la, T.lowered b lb, (spread_lifting w).fixed, (spread_lifting w).first, lc);
+      feasible = λ z e le. omega (arith, S.demands refl start_edges e le, T.lowered (head_of net e) (N.heads e le), T.lowered (tail_of net e) (N.tails e le));
+      held = λ z. omega (arith, T.lowered a la, T.lowered b lb, spread_lifting.fixed, spread_lifting.first, lc);
       kept = λ n. absurd (n refl);
-      impossible = λ z. absurd (omega (arith, z));
+      impossible = λ z. ok_not_err refl z;
     }
 
-    pub lift_blocked : r ≡ 600 → Lifts net m nodes pot pot a b c 1
-    lift_blocked z = record {
-      range = omega arith;
-      long = λ w. absurd (omega (arith, w));
-      origin = λ w. absurd (omega (arith, w));
-      feasible = λ w. absurd (omega (arith, w));
-      held = λ w. absurd (omega (arith, w));
-      kept = λ n. refl;
-      impossible = λ w p h. omega (arith, S.blocks z pot a top start_lifting p h, lc);
-    }
+  pub lift_ends : {pot' : List ℕ} {e : Unmet} → Spread net m nodes b (set pot a top) (a ∷ []) pot' (Err e) → Lifts net m nodes pot pot a b c (Err e)
+  lift_ends S = record {
+    long = λ w. ok_not_err w refl;
+    origin = λ w. ok_not_err w refl;
+    feasible = λ w. ok_not_err w refl;
+    held = λ w. ok_not_err w refl;
+    kept = λ n. refl;
+    impossible = λ z p h. omega (arith, S.blocks z pot a top start_lifting p h, lc);
+  }
 
-pub lift_given : {net : List ℕ} {m nodes : ℕ} {pot : List ℕ} {a b c : ℕ} → Lifts net m nodes pot pot a b c 2
+pub lift_given : {net : List ℕ} {m nodes : ℕ} {pot : List ℕ} {a b c : ℕ} → Lifts net m nodes pot pot a b c (Err GivenUp)
 lift_given = record {
-  range = omega arith;
-  long = λ w. absurd (omega (arith, w));
-  origin = λ w. absurd (omega (arith, w));
-  feasible = λ w. absurd (omega (arith, w));
-  held = λ w. absurd (omega (arith, w));
+  long = λ w. ok_not_err w refl;
+  origin = λ w. ok_not_err w refl;
+  feasible = λ w. ok_not_err w refl;
+  held = λ w. ok_not_err w refl;
   kept = λ n. refl;
-  impossible = λ w. absurd (omega (arith, w));
+  impossible = λ w. ring_not_given_up w refl;
 }
 
 -- ---- lowering all nodes

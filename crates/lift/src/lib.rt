@@ -4,181 +4,200 @@
 
 #![tactic(auto)]
 
-ghost use Rattle.std.specs.Prelude.{◌≡◌, ℕ, ◌+◌, ◌*◌, ◌-◌, ◌<◌, ◌≤◌, length};
-ghost use Rattle.network.specs.Stored.{at, tail_of, cost_of, Network, Potential};
-ghost use Rattle.network.specs.Index.{Index, Listed};
+ghost use Rattle.std.specs.Prelude.{◌≡◌, ℕ, ◌+◌, ◌*◌, ◌-◌, ◌<◌, ◌≤◌, [], ◌∷◌, ◌++◌, OnOk, IsOkUnless, length};
+ghost use Rattle.network.specs.Stored.{at, Potential};
+ghost use Rattle.network.specs.Index.{Listed};
+ghost use Rattle.lift.specs.declared.Unmet.TheVariants.{GivenUp};
 ghost use Rattle.lift.specs.Lift.{Visited, Ready, Passes, AtNode, NoEdge, Spread, Shifted, Lifts};
 
-use network::BIAS;
-
-// How often nodes may be raised before a lift is given up.
-const QUEUE: usize = 400;
+use network::{BIAS, ByHead};
+use std::marker::Model;
 
 // How high a node may be raised.
 const HIGH: u32 = 4_000_000;
 
-// The answers of a visit that ends a lift: the head of the demand would have to rise; it is given up.
-const RING: usize = 600;
+// Why a lift ends before its demand holds.
+#[derive(Clone, Copy, Debug, PartialEq, Eq)]
+pub enum Unmet {
+    // The head of the demand would have to rise: no potential meets it.
+    Ring,
+    // Nodes were raised too often or too high to go on.
+    GivenUp,
+}
 
-const GIVEN_UP: usize = 601;
+// The nodes that were raised, in this order. A node that is raised again is in it again.
+#[derive(Drop)]
+struct Queue {
+    nodes: [u8; 400],
+    len: usize,
+}
 
-// Visit edge e, whose head is v: where its demand fails, its tail is raised and queued at t.
+impl Model for Queue {
+    ghost use Rattle.std.specs.Prelude.{ℕ, List, ◌≤◌, take};
+
+    ghost Value = { List ℕ };
+
+    ghost view = { λ q. take q.len q.nodes };
+
+    ghost invariant = { λ q. q.len ≤ 400 };
+}
+
+impl Queue {
+    // A queue with node v in front.
+    fn new(v: usize) -> Queue
+        requires { v < 81 }
+        ensures { result ≡ v ∷ [] }
+    {
+        let mut queue = Queue {
+            nodes: [0; 400],
+            len: 1,
+        };
+        queue.nodes[0] = v as u8;
+        queue
+    }
+
+    fn len(&self) -> usize
+        ensures value { result ≡ length self.now }
+        ensures room { result ≤ 400 }
+    {
+        self.len
+    }
+
+    // The node at place k.
+    fn at(&self, k: usize) -> usize
+        requires { k < length self.now }
+        ensures { result ≡ at self.now k }
+    {
+        usize::from(self.nodes[k])
+    }
+
+    // Put node v at the end. Where there is no room the lift is given up.
+    fn push(&mut self, v: usize) -> Result<(), Unmet>
+        requires { v < 81 }
+        ensures ok { OnOk result (self.new ≡ self.old ++ v ∷ []) }
+        ensures full { IsOkUnless result GivenUp }
+    {
+        if self.len == 400 {
+            return Err(Unmet::GivenUp);
+        }
+        self.nodes[self.len] = v as u8;
+        self.len += 1;
+        Ok(())
+    }
+}
+
+// The edges, the times, the queue and b are no struct: each contract would have to say besides that the edges and b stay as they are.
+
+// Visit edge e, whose head is v: where its demand fails, its tail is raised and put into the queue.
 fn visit(
-    net: &[u32],
+    edges: &ByHead<'_>,
     pot: &mut [u32; 81],
-    queue: &mut [u8; 400],
+    queue: &mut Queue,
     e: usize,
     v: usize,
     b: usize,
-    t: usize,
-) -> usize
-    requires e_in_bounds { (4 * e + 3 < length net.now) × (tail_of net.now e < 81) × (v < 81) × (cost_of net.now e ≤ 2000000) }
-    requires e_bound { (at pot.old (tail_of net.now e) ≤ 4000000) × (at pot.old v ≤ 4000000) × (t ≤ 400) }
-    ensures { Visited net.now pot.old pot.new queue.old queue.new e v b t result }
+) -> Result<(), Unmet>
+    requires inside { (e < edges.now.m) × (v < edges.now.nodes) }
+    requires ready { Ready edges.now.nodes pot.old queue.old }
+    ensures { Visited edges.now.net.now pot.old pot.new queue.old queue.new e v b result }
 {
-    let u = net[4 * e] as usize;
-    let c = net[4 * e + 2];
+    let u = edges.net[4 * e] as usize;
+    let c = edges.net[4 * e + 2];
     let x = pot[v] + BIAS;
     if x <= pot[u] + c {
-        return t;
+        return Ok(());
     }
     if u == b {
-        return RING;
-    }
-    if t == QUEUE {
-        return GIVEN_UP;
+        return Err(Unmet::Ring);
     }
     if HIGH + c < x {
-        return GIVEN_UP;
+        return Err(Unmet::GivenUp);
     }
+    queue.push(u)?;
     pot[u] = x - c;
-    queue[t] = u as u8;
-    t + 1
+    Ok(())
 }
 
 // Visit the box edges whose head is the origin.
 fn visit_origin(
-    net: &[u32],
-    m: usize,
-    nodes: usize,
+    edges: &ByHead<'_>,
     pot: &mut [u32; 81],
-    queue: &mut [u8; 400],
+    queue: &mut Queue,
     b: usize,
-    t: usize,
-) -> usize
-    requires { Network net.now m nodes × Ready nodes pot.old queue.old t }
-    ensures { Passes net.now m nodes b pot.old queue.old t pot.new queue.new result (AtNode net.now 0) (Listed net.now (2 * nodes - 2) 1 0) }
+) -> Result<(), Unmet>
+    requires { Ready edges.now.nodes pot.old queue.old }
+    ensures { Passes edges.now.net.now edges.now.m edges.now.nodes b pot.old queue.old pot.new queue.new result (AtNode edges.now.net.now 0) (Listed edges.now.net.now (2 * edges.now.nodes - 2) 1 0) }
 {
-    let mut r = t;
-    let mut u = 1;
-    while u < nodes {
-        r = visit(net, pot, queue, 2 * u - 2, 0, b, r);
-        if QUEUE < r {
-            return r;
-        }
-        u += 1;
+    for u in 1..edges.nodes {
+        visit(edges, pot, queue, 2 * u - 2, 0, b)?;
     }
-    r
+    Ok(())
 }
 
 // Visit the box edges whose head is v.
 fn visit_box(
-    net: &[u32],
-    m: usize,
-    nodes: usize,
+    edges: &ByHead<'_>,
     pot: &mut [u32; 81],
-    queue: &mut [u8; 400],
+    queue: &mut Queue,
     v: usize,
     b: usize,
-    t: usize,
-) -> usize
-    requires { Network net.now m nodes × Ready nodes pot.old queue.old t × (v < nodes) }
-    ensures { Passes net.now m nodes b pot.old queue.old t pot.new queue.new result (AtNode net.now v) (Listed net.now (2 * nodes - 2) 1 v) }
+) -> Result<(), Unmet>
+    requires { Ready edges.now.nodes pot.old queue.old × (v < edges.now.nodes) }
+    ensures { Passes edges.now.net.now edges.now.m edges.now.nodes b pot.old queue.old pot.new queue.new result (AtNode edges.now.net.now v) (Listed edges.now.net.now (2 * edges.now.nodes - 2) 1 v) }
 {
     if v == 0 {
-        return visit_origin(net, m, nodes, pot, queue, b, t);
+        visit_origin(edges, pot, queue, b)
+    } else {
+        visit(edges, pot, queue, 2 * v - 1, v, b)
     }
-    visit(net, pot, queue, 2 * v - 1, v, b, t)
 }
 
 // Visit the other edges whose head is v.
 fn visit_list(
-    net: &[u32],
-    m: usize,
-    nodes: usize,
-    heads: &[u32],
+    edges: &ByHead<'_>,
     pot: &mut [u32; 81],
-    queue: &mut [u8; 400],
+    queue: &mut Queue,
     v: usize,
     b: usize,
-    t: usize,
-) -> usize
-    requires network { Network net.now m nodes × Ready nodes pot.old queue.old t × (v < nodes) }
-    requires index { Index net.now m (2 * nodes - 2) 1 heads.now }
-    ensures { Passes net.now m nodes b pot.old queue.old t pot.new queue.new result (Listed net.now (2 * nodes - 2) 1 v) NoEdge }
+) -> Result<(), Unmet>
+    requires { Ready edges.now.nodes pot.old queue.old × (v < edges.now.nodes) }
+    ensures { Passes edges.now.net.now edges.now.m edges.now.nodes b pot.old queue.old pot.new queue.new result (Listed edges.now.net.now (2 * edges.now.nodes - 2) 1 v) NoEdge }
 {
-    let base = 2 * nodes - 2;
-    let mut r = t;
-    let mut x = heads[v] as usize;
-    while 0 < x {
-        let e = x - 1;
-        r = visit(net, pot, queue, e, v, b, r);
-        if QUEUE < r {
-            return r;
-        }
-        x = heads[81 + (e - base)] as usize;
+    let mut next = edges.last(v);
+    while let Some(e) = next {
+        visit(edges, pot, queue, e, v, b)?;
+        next = edges.before(e);
     }
-    r
+    Ok(())
 }
 
 // Visit all edges whose head is v.
 fn visit_node(
-    net: &[u32],
-    m: usize,
-    nodes: usize,
-    heads: &[u32],
+    edges: &ByHead<'_>,
     pot: &mut [u32; 81],
-    queue: &mut [u8; 400],
+    queue: &mut Queue,
     v: usize,
     b: usize,
-    t: usize,
-) -> usize
-    requires network { Network net.now m nodes × Ready nodes pot.old queue.old t × (v < nodes) }
-    requires index { Index net.now m (2 * nodes - 2) 1 heads.now }
-    ensures { Passes net.now m nodes b pot.old queue.old t pot.new queue.new result (AtNode net.now v) NoEdge }
+) -> Result<(), Unmet>
+    requires { Ready edges.now.nodes pot.old queue.old × (v < edges.now.nodes) }
+    ensures { Passes edges.now.net.now edges.now.m edges.now.nodes b pot.old queue.old pot.new queue.new result (AtNode edges.now.net.now v) NoEdge }
 {
-    let r = visit_box(net, m, nodes, pot, queue, v, b, t);
-    if QUEUE < r {
-        return r;
-    }
-    visit_list(net, m, nodes, heads, pot, queue, v, b, r)
+    visit_box(edges, pot, queue, v, b)?;
+    visit_list(edges, pot, queue, v, b)
 }
 
-// Visit the edges of the nodes in the queue, the first of which is there, until none is left.
-fn spread(
-    net: &[u32],
-    m: usize,
-    nodes: usize,
-    heads: &[u32],
-    pot: &mut [u32; 81],
-    queue: &mut [u8; 400],
-    b: usize,
-) -> usize
-    requires network { Network net.now m nodes × Ready nodes pot.old queue.old 1 }
-    requires index { Index net.now m (2 * nodes - 2) 1 heads.now }
-    ensures { Spread net.now m nodes b pot.old queue.old pot.new result }
+// Visit the edges of the nodes in the queue, until none is left.
+fn spread(edges: &ByHead<'_>, pot: &mut [u32; 81], queue: &mut Queue, b: usize) -> Result<(), Unmet>
+    requires { Ready edges.now.nodes pot.old queue.old }
+    ensures { Spread edges.now.net.now edges.now.m edges.now.nodes b pot.old queue.old pot.new result }
 {
     let mut s = 0;
-    let mut t = 1;
-    while s < t {
-        let v = queue[s] as usize;
-        t = visit_node(net, m, nodes, heads, pot, queue, v, b, t);
-        if QUEUE < t {
-            return t;
-        }
+    while s < queue.len() {
+        let v = queue.at(s);
+        visit_node(edges, pot, queue, v, b)?;
         s += 1;
     }
-    t
+    Ok(())
 }
 
 // Lower all nodes by the potential of the origin.
@@ -191,54 +210,37 @@ fn shift(pot: &mut [u32; 81], nodes: usize)
     if low == 0 {
         return;
     }
-    let mut v = 0;
-    while v < nodes {
-        pot[v] = pot[v] - low;
-        v += 1;
+    for v in 0..nodes {
+        pot[v] -= low;
     }
 }
 
-// A queue with node a in front.
-fn queue_of(a: usize) -> [u8; 400]
-    requires { a < 81 }
-    ensures { (length result ≡ 400) × (at result 0 ≡ a) }
-{
-    let mut queue = [0u8; 400];
-    queue[0] = a as u8;
-    queue
-}
-
-// Lift the potential until the demand of an edge from a to b at the biased cost c holds, which fails so far. 0: it holds; 1: no potential meets it; 2: given up.
-// Where it does not hold the potential is as it was.
+// Lift the potential until the demand of an edge from a to b at the biased cost c holds, which fails so far. Where it does not hold the potential is as it was.
 pub fn lift(
-    net: &[u32],
-    m: usize,
-    nodes: usize,
-    heads: &[u32],
+    edges: &ByHead<'_>,
     pot: &mut [u32; 81],
     a: usize,
     b: usize,
     c: u32,
-) -> u32
-    requires network { Network net.now m nodes × Potential net.now m pot.old }
-    requires index { Index net.now m (2 * nodes - 2) 1 heads.now }
-    requires a_lt_nodes { (a < nodes) × (b < nodes) × (c ≤ 2000000) × (at pot.old a + c < at pot.old b + 1000000) }
-    ensures { Lifts net.now m nodes pot.old pot.new a b c result }
+) -> Result<(), Unmet>
+    requires potential { Potential edges.now.net.now edges.now.m pot.old }
+    requires a_lt_nodes { (a < edges.now.nodes) × (b < edges.now.nodes) × (c ≤ 2000000) × (at pot.old a + c < at pot.old b + 1000000) }
+    ensures { Lifts edges.now.net.now edges.now.m edges.now.nodes pot.old pot.new a b c result }
 {
     if a == b {
-        return 2;
+        return Err(Unmet::GivenUp);
     }
     let old = *pot;
-    let mut queue = queue_of(a);
+    let mut queue = Queue::new(a);
     pot[a] = pot[b] + BIAS - c;
-    let r = spread(net, m, nodes, heads, pot, &mut queue, b);
-    if r <= QUEUE {
-        shift(pot, nodes);
-        return 0;
+    match spread(edges, pot, &mut queue, b) {
+        Ok(()) => {
+            shift(pot, edges.nodes);
+            Ok(())
+        }
+        Err(unmet) => {
+            *pot = old;
+            Err(unmet)
+        }
     }
-    *pot = old;
-    if r == RING {
-        return 1;
-    }
-    2
 }

@@ -1,5 +1,5 @@
 -- What the code has answered and written at each of its returns. Rests on `mending`'s Mending and Mended, and on `ticket` for what reading answers.
-use Rattle.std.specs.Prelude.{ℕ, ◌+◌, ◌*◌, ◌≤◌, ◌≡◌, List, ◌≢◌, length}
+use Rattle.std.specs.Prelude.{ℕ, ◌+◌, ◌*◌, ◌≤◌, ◌≡◌, List, length, Ok, Err}
 use Rattle.std.proofs.Common.{sym, ap, subst, ◌∙◌, arith}
 use Rattle.std.proofs.lemmas.List.Edits.{sets}
 use Rattle.temporal.specs.Ticket as temporal
@@ -13,7 +13,10 @@ use Rattle.ticket.proofs.Sizes.{ticket_bytes}
 use Rattle.ticket.proofs.WritingLaws.{length_firsts}
 use Rattle.ticket.specs.Content.{Limits}
 use Rattle.ticket.proofs.Content.{in_events, in_rules, limits, read_refused, read_got, read_content}
-use Rattle.ticket.specs.declared.ReadTicket.{ReadTicket}
+use Rattle.ticket.specs.Refusal.{number_of}
+use Rattle.ticket.proofs.Refusals.{refusal_number}
+use Rattle.ticket.specs.declared.Ticket.{Ticket}
+use Rattle.ticket.specs.declared.Refusal.{Refusal}
 use Rattle.writing.specs.Stores.{sets_over, sets_then, sets_each}
 use Rattle.mending.specs.Selection.{mended, dropped}
 use Rattle.mending.proofs.Laws.{selected_count, mended_valid}
@@ -21,8 +24,7 @@ use Rattle.mending.specs.Mending.{write_numbers, Outcome, refusing, accepting, a
 use Rattle.mending.proofs.Mending.{mending_read}
 use Rattle.mending.proofs.Mended.{length_numbers, numbers_fit}
 use Rattle.select.specs.declared.Mended.{Mended}
-use Rattle.mend.specs.Returned.{returned}
-use Rattle.mend.specs.declared.Answer.{Answer}
+use Rattle.mend.specs.Returned.{Answer, returned}
 
 -- a is what the outcome returns, and `out` and `list` its outputs
 abbrev pub Meets : Outcome → Answer → (out list : List ℕ) → Type 0
@@ -73,13 +75,15 @@ module _ (k : temporal.Ticket) (v : Valid k) (m : Mended) (e : content m.ticket 
 
 -- ---- reading
 
-module _ (ticket out list : List ℕ) (l : 1584 ≤ length out) (m : 514 ≤ length list) {x : ReadTicket} (e : x ≡ whole_ticket ticket) where
-  pub ticket_misread : {a : Answer} → x.number ≢ 0 → a ≡ record { number = x.number; length = 0; listed = 0 } → Meets (mending ticket out list) a out list
-  ticket_misread n q =
-      let c = read_refused ticket e n in
-      meets_refused (mending_read ticket out list l m ∙ ap (after_reading out list) c.1) (q ∙ ap (λ (r : ℕ). record { number = r; length = 0; listed = 0 }) c.2)
+module _ (ticket out list : List ℕ) (l : 1584 ≤ length out) (m : 514 ≤ length list) where
+  pub ticket_misread : {a : Answer} {e : Refusal} → Err e ≡ whole_ticket ticket → a ≡ record { number = number_of e; length = 0; listed = 0 } → Meets (mending ticket out list) a out list
+  ticket_misread e q =
+      let c = read_refused ticket e in
+      meets_refused (mending_read ticket out list l m ∙ ap (after_reading out list) c.1)
+      (q ∙ ap (λ (r : ℕ). record { number = r; length = 0; listed = 0 }) (ap number_of c.2 ∙ refusal_number c.0))
 
-  pub ticket_mended : {a : Answer} {out' list' : List ℕ} → x.number ≡ 0 → Meets (accepting (content x.ticket) out list) a out' list' → Meets (mending ticket out list) a out' list'
-  ticket_mended {a} {out'} {list'} z h =
+  pub ticket_mended : {t : Ticket} → Ok t ≡ whole_ticket ticket → {a : Answer} {out' list' : List ℕ} → Meets (accepting (content t) out list) a out' list'
+      → Meets (mending ticket out list) a out' list'
+  ticket_mended e {a} {out'} {list'} h =
       subst (λ o. Meets o a out' list')
-      (ap (λ k. accepting k out list) (read_content ticket e z) ∙ ap (after_reading out list) (sym (read_got ticket e z).2) ∙ sym (mending_read ticket out list l m)) h
+      (ap (λ k. accepting k out list) (read_content ticket e) ∙ ap (after_reading out list) (sym (read_got ticket e).2) ∙ sym (mending_read ticket out list l m)) h

@@ -10,9 +10,9 @@ ghost use Rattle.temporal.specs.Run.{Valid};
 ghost use Rattle.network.specs.Stored.{at};
 ghost use Rattle.ticket.specs.Writing.{firsts, content};
 ghost use Rattle.mending.specs.Mending.{write_numbers, accepting, mending};
-ghost use Rattle.mend.specs.Returned.{returned};
+ghost use Rattle.mend.specs.Returned.{returned, told};
 
-use ticket::{TICKET_BYTES, Ticket};
+use ticket::{Refusal, TICKET_BYTES, Ticket};
 
 // A list holds its count and 256 numbers, of two bytes each.
 pub const LIST_BYTES: usize = 514;
@@ -23,67 +23,47 @@ fn put_numbers(numbers: &[usize; 256], n: usize, list: &mut [u8])
     ensures { list.new ≡ sets list.old 0 (write_numbers (firsts n (at numbers.now))) }
 {
     writing::put_u16(list, 0, n);
-    let mut i = 0;
-    while i < n {
+    for i in 0..n {
         writing::put_u16(list, 2 + 2 * i, numbers[i]);
-        i += 1;
     }
 }
 
-// The number of the refusal, 0 when the ticket is mended; the lengths of the mended ticket and of the list, 0 when refused.
-#[derive(Drop)]
-pub struct Answer {
-    pub number: u32,
+// A mended ticket: its length, and that of the list.
+#[derive(Clone, Copy, Debug, PartialEq, Eq)]
+pub struct Lengths {
     pub length: usize,
     pub listed: usize,
 }
 
-fn refusal(number: u32) -> Answer
-    ensures { result ≡ record { number = number; length = 0; listed = 0 } }
-{
-    Answer {
-        number,
-        length: 0,
-        listed: 0,
-    }
-}
-
 // Mend a ticket that was read, into the outputs.
-fn write_mended(t: Ticket, out: &mut [u8], list: &mut [u8]) -> Answer
+fn write_mended(t: Ticket, out: &mut [u8], list: &mut [u8]) -> Lengths
     requires { Valid (content t) × (1584 ≤ length out.old) × (514 ≤ length list.old) }
-    ensures value { result ≡ returned (accepting (content t) out.old list.old) }
+    ensures value { told (Ok result) ≡ returned (accepting (content t) out.old list.old) }
     ensures out_after { out.new ≡ (accepting (content t) out.old list.old).out }
     ensures list_after { list.new ≡ (accepting (content t) out.old list.old).list }
 {
     let m = select::mend_ticket(t);
-    let mended = m.ticket;
-    let numbers = m.numbers;
     let n = m.dropped;
-    writing::put_ticket(mended, out);
-    put_numbers(&numbers, n, list);
-    Answer {
-        number: 0,
-        length: 8 + mended.events + 6 * mended.rules,
+    writing::put_ticket(m.ticket, out);
+    put_numbers(&m.numbers, n, list);
+    Lengths {
+        length: 8 + m.ticket.events + 6 * m.ticket.rules,
         listed: 2 + 2 * n,
     }
 }
 
 // Mend the ticket that the bytes hold: the mended ticket goes into the output, and the numbers of the dropped rules into the list.
-pub fn mend(ticket: &[u8], out: &mut [u8], list: &mut [u8]) -> Answer
-    ensures value { result ≡ returned (mending ticket.now out.old list.old) }
+pub fn mend(ticket: &[u8], out: &mut [u8], list: &mut [u8]) -> Result<Lengths, Refusal>
+    ensures value { told result ≡ returned (mending ticket.now out.old list.old) }
     ensures out_after { out.new ≡ (mending ticket.now out.old list.old).out }
     ensures list_after { list.new ≡ (mending ticket.now out.old list.old).list }
 {
     if out.len() < TICKET_BYTES {
-        return refusal(10);
+        return Err(Refusal::Room);
     }
     if list.len() < LIST_BYTES {
-        return refusal(10);
+        return Err(Refusal::Room);
     }
-    let read = reading::read_ticket(ticket);
-    if read.number != 0 {
-        return refusal(read.number);
-    }
-    let t = read.ticket;
-    write_mended(t, out, list)
+    let t = reading::read_ticket(ticket)?;
+    Ok(write_mended(t, out, list))
 }

@@ -1,46 +1,27 @@
 -- The laws of what specs/Structs defines.
-use Rattle.std.specs.Prelude.{◌≡◌, refl, List, [], ◌∷◌, ◌++◌, map, Bool, true, false, cond, ◌≢◌, ◌↔◌, ℕ, zero, suc, ◌+◌, ◌-◌, ◌≤◌, ◌<◌, T, leb, ltb, ℤ, pos, negsuc, ◌+ℤ◌, ◌-ℤ◌, ◌≤ℤ◌, length, get_or, set}
+use Rattle.std.specs.Prelude.{◌≡◌, refl, List, [], ◌∷◌, ◌++◌, map, ◌≢◌, ℕ, zero, suc, ◌+◌, ◌≤◌, ◌<◌, ℤ, pos, negsuc, ◌+ℤ◌, ◌-ℤ◌, ◌≤ℤ◌, length, get_or, set}
 use Rattle.std.proofs.Math.Path.{sym}
-use Rattle.std.proofs.Common.{ap, subst, ◌∙◌, ⊎_elim, arith, le-leb, leb→le, SFits, length-set, get_or-set_same, get_or-set_other}
-use Rattle.std.specs.Int.Signed.{mag, le_z}
-use Rattle.std.specs.Int.{w32}
+use Rattle.std.proofs.Common.{ap, subst, ◌∙◌, ⊎_elim, arith, SFits, length-set, get_or-set_same, get_or-set_other}
+use Rattle.std.specs.Int.Signed.{le_z}
+use Rattle.std.specs.Int.{w32, int_min}
+use Rattle.std.proofs.lemmas.Int.{ints}
 use Rattle.temporal.specs.Lists.{All}
 use Rattle.temporal.proofs.Lists.{below_or_not, All-below}
-use Rattle.temporal.specs.Bound.{above, below}
+use Rattle.temporal.specs.Bound.{below}
 use Rattle.temporal.specs.Ticket.{Rule, events}
 use Rattle.temporal.specs.Run.{ValidRule, Valid}
-use Rattle.network.specs.Lists.{differ}
 use Rattle.network.specs.Stored.{at}
 use Rattle.ticket.specs.declared.Ticket.{Ticket}
 use Rattle.ticket.specs.Writing.{firsts, rule_in, content}
 use Rattle.ticket.proofs.Agree.{firsts_cong, all_firsts}
 use Rattle.ticket.proofs.Content.{in_rules}
-use Rattle.potentials.specs.Arrays.{window_list, Within, no_rule, rule_in_lem}
+use Rattle.demands.specs.Rules.{Tests}
+use Rattle.potentials.specs.Arrays.{window_list, no_rule, rule_in_lem}
 use Rattle.mirror.specs.Mirror.{mirror_bound, mirror_rule, mirror_window, mirror_windows}
-use Rattle.mirror.proofs.Mirror.{signs_plus, signs_minus}
-use Rattle.mirror.specs.Cut.{cut_bound, cut_mirror_bound, cut_rule, cut_mirror, Possible}
-use Rattle.mirror.proofs.Cut.{signs_one, signs_low, signs_high}
+use Rattle.mirror.specs.Cut.{cut_bound, cut_mirror_bound, cut_rule, cut_mirror, minℤ, Possible}
 use Rattle.mirror.specs.Structs.{Bounds, Exchanged, Replaced}
 
 -- ---- the bound of a rule's mirror, as the code works it
-
-small_fits : (z : ℤ) → above z ≤ 2000000 → below z ≤ 2000000 → SFits w32 z
-unfolding above below
-small_fits (pos n) a b = record { sfits = omega arith }
-small_fits (negsuc n) a b = record { sfits = omega arith }
-
-module _ (h : ℕ) (l : h ≤ 1000000) (c : ℤ) (a : negsuc 999999 ≤ℤ c) (b : c ≤ℤ pos 1000000) where
-  pub minus_fits : SFits w32 (c -ℤ pos h)
-  minus_fits =
-      let s = signs_minus c h in
-      let o = signs_one (c -ℤ pos h) in
-      small_fits (c -ℤ pos h) (omega (arith, s, o, (signs_high c).0 b, (signs_low c).0 a)) (omega (arith, s, o, (signs_high c).0 b, (signs_low c).0 a))
-
-  pub plus_fits : SFits w32 (c +ℤ pos h)
-  plus_fits =
-      let s = signs_plus c h in
-      let o = signs_one (c +ℤ pos h) in
-      small_fits (c +ℤ pos h) (omega (arith, s, o, (signs_high c).0 b, (signs_low c).0 a)) (omega (arith, s, o, (signs_high c).0 b, (signs_low c).0 a))
 
 pub bound_from_start : (h i j : ℕ) (c : ℤ) → i ≡ 0 → i ≢ j → cut_mirror_bound h i j c ≡ c -ℤ pos h
 unfolding cut_bound mirror_bound
@@ -54,55 +35,34 @@ bound_between h zero j c n m = absurd (n refl)
 bound_between h (suc i) zero c n m = absurd (m refl)
 bound_between h (suc i) (suc j) c n m = refl
 
-pub bound_cut : (h i j : ℕ) (c : ℤ) → i ≢ 0 → j ≡ 0 → le_z (pos 0) c ≡ true → cut_mirror_bound h i j c ≡ pos h
+pub bound_to_start : (h i j : ℕ) (c : ℤ) → i ≢ 0 → j ≡ 0 → cut_mirror_bound h i j c ≡ minℤ (c +ℤ pos h) (pos h)
 unfolding cut_bound mirror_bound
-bound_cut h zero j c n e t = absurd (n refl)
-bound_cut h (suc i) (suc j) c n e t = absurd (omega arith)
-bound_cut h (suc i) zero (negsuc m) n e t = differ (sym t)
-bound_cut h (suc i) zero (pos m) n e t = by (leb (m + h) h) (λ u. leb→le (m + h) h u)
-  where
-    by : (b : Bool) → (T b → m + h ≤ h) → cond b (pos (m + h)) (pos h) ≡ pos h
-    by true f = ap pos (omega (arith, f tt))
-    by false f = refl
+bound_to_start h zero j c n e = absurd (n refl)
+bound_to_start h (suc i) (suc j) c n e = absurd (omega arith)
+bound_to_start h (suc i) zero c n e = refl
 
-pub bound_to_start : (h i j : ℕ) (c : ℤ) → i ≢ 0 → j ≡ 0 → le_z (pos 0) c ≡ false → cut_mirror_bound h i j c ≡ c +ℤ pos h
-unfolding cut_bound mirror_bound
-bound_to_start h zero j c n e t = absurd (n refl)
-bound_to_start h (suc i) (suc j) c n e t = absurd (omega arith)
-bound_to_start h (suc i) zero (pos m) n e t = differ (sym (le-leb 0 m (omega arith)) ∙ t)
-bound_to_start h (suc i) zero (negsuc m) n e t = by (ltb h (suc m))
-  where
-    by : (b : Bool)
-        → cond (le_z (cond b (negsuc (suc m - suc h)) (pos (h - suc m))) (pos h)) (cond b (negsuc (suc m - suc h)) (pos (h - suc m))) (pos h)
-        ≡ cond b (negsuc (suc m - suc h)) (pos (h - suc m))
-    by true = refl
-    by false = rw (le-leb (h - suc m) h (omega arith)) refl
+pub min_same : (a b : ℤ) → int_min a b ≡ minℤ a b
+min_same a b = grind (arith, ints)
 
 -- ---- whether a rule with the start can be kept
 
-pub possible_yes : (h i j : ℕ) (c : ℤ) → le_z (pos 0) c ≡ true → Possible h (record { from = i; to = j; bound = c })
-unfolding below
-possible_yes h i j (pos n) t = (λ _. refl, λ _. omega arith)
-possible_yes h i j (negsuc n) t = differ (sym t)
+tests_le : (a c : ℤ) {A : Type 0} → (a ≤ℤ c → A) → (A → a ≤ℤ c) → Tests (le_z a c) A
+tests_le a c f g = record {
+  holds = λ e. f (record { le = rw e tt });
+  fails = λ e p. rw e at (g p).le;
+}
 
-pub possible_not : (h i j : ℕ) (c : ℤ) → le_z (pos 0) c ≡ false → i ≡ 0 → Possible h (record { from = i; to = j; bound = c }) → ⊥
+pub possible_from_start : (h i j : ℕ) (c : ℤ) → i ≡ 0 → i ≢ j → Tests (le_z (pos 0) c) (Possible h (record { from = i; to = j; bound = c }))
 unfolding below
-possible_not h i j (pos n) t e p = differ (sym (le-leb 0 n (omega arith)) ∙ t)
-possible_not h i j (negsuc n) t e p = omega (arith, p.0 e)
+possible_from_start h i j (pos n) e d = tests_le (pos 0) (pos n) (λ l. (λ _. refl, λ _. omega arith)) (λ p. omega (arith, ints))
+possible_from_start h i j (negsuc n) e d = tests_le (pos 0) (negsuc n) (λ l. absurd (omega (arith, ints))) (λ p. absurd (omega (arith, p.0 e)))
 
-pub possible_between : (h i j : ℕ) (c : ℤ) → i ≢ 0 → j ≢ 0 → Possible h (record { from = i; to = j; bound = c })
-possible_between h i j c n m = (λ e. absurd (n e), λ e. absurd (m e))
-
--- a negative bound is minus its magnitude, which is counted from -1
-pub possible_to_start : (h i j : ℕ) (c : ℤ) → le_z (pos 0) c ≡ false → i ≢ 0 → j ≡ 0 → (mag c < h) ↔ Possible h (record { from = i; to = j; bound = c })
+pub possible_to_start : (h i j : ℕ) (c : ℤ) → i ≢ 0 → j ≡ 0 → Tests (le_z (pos 0 -ℤ pos h) c) (Possible h (record { from = i; to = j; bound = c }))
 unfolding below
-possible_to_start h i j (pos n) t d e = differ (sym (le-leb 0 n (omega arith)) ∙ t)
-possible_to_start h i j (negsuc n) t d e = (λ l. (λ z. absurd (d z), λ _. omega arith), λ p. omega (arith, p.1 e))
+possible_to_start h i j (pos n) d e = tests_le (pos 0 -ℤ pos h) (pos n) (λ l. (λ z. absurd (d z), λ _. omega arith)) (λ p. omega (arith, ints))
+possible_to_start h i j (negsuc n) d e = tests_le (pos 0 -ℤ pos h) (negsuc n) (λ l. (λ z. absurd (d z), λ _. omega (arith, ints))) (λ p. omega (arith, ints, p.1 e))
 
 module _ {A : Type 0} {d : A} {f : ℕ → A} {xs : List A} where
-  pub replaced_none : Replaced d 0 f xs xs
-  replaced_none = record { long = refl; first = λ i l. absurd (omega arith); rest = λ i l. refl }
-
   pub replaced_more : {n : ℕ} {xs' : List A} {x : A} → n < length xs → x ≡ f n → Replaced d n f xs xs' → Replaced d (n + 1) f xs (set xs' n x)
   replaced_more {n} {xs'} {x} l e R = record {
     long = simp length-set R.long;
@@ -132,12 +92,6 @@ module _ {h n : ℕ} {opens closes opens' closes' : List ℕ} (E : Exchanged h n
       (λ i l. λ j. record { opens = E.opened.first i l j; closes = E.closed.first i l j })
       ∙ sym (firsts_map (mirror_window h) n (λ i. record { opens = at opens i; closes = at closes i }))
 
-  pub exchanged_within : Within n opens opens' × Within n closes closes'
-  exchanged_within = (
-    record { long = E.opened.long; past = E.opened.rest },
-    record { long = E.closed.long; past = E.closed.rest },
-  )
-
 pub mirrored_content : (t : Ticket) (bounds : List ℤ) → Bounds t bounds t.rules
     → content (record { horizon = t.horizon; events = t.events; owners = t.owners; rules = t.rules; from = t.to; to = t.from; bound = bounds }) ≡ cut_mirror (content t)
 mirrored_content t bounds B =
@@ -156,7 +110,7 @@ pub rules_all : (t : Ticket) (P : Rule → Type 0) → ((j : ℕ) → j < t.rule
 rules_all t P h = all_firsts P (rule_in t) t.rules h
 
 pub valid_fits : {n : ℕ} {r : Rule} → ValidRule n r → SFits w32 r.bound
-valid_fits {r = r} v = small_fits r.bound (omega (arith, (signs_high r.bound).0 v.at_most)) (omega (arith, (signs_low r.bound).0 v.at_least))
+valid_fits v = omega (arith, ints)
 
 -- rule j of a valid ticket, whose points are bytes
 pub rule_valid : (t : Ticket) → Valid (content t) → (j : ℕ) → j < t.rules → ValidRule 255 (rule_in t j)
@@ -169,3 +123,6 @@ rule_valid t v j l =
       at_least = r.at_least;
       at_most = r.at_most;
     }
+
+pub few_rules : (t : Ticket) → Valid (content t) → t.rules ≤ 256
+few_rules t v = omega (arith, in_rules t, v.rules_limit)

@@ -4,35 +4,29 @@
 
 #![tactic(auto)]
 
-ghost use Rattle.std.specs.Prelude.{◌≡◌, ◌≤◌, length};
+ghost use Rattle.std.specs.Prelude.{◌≡◌, ◌≤◌, ◌<◌, length, pos, get_or};
 ghost use Rattle.temporal.specs.Lists.{All};
-ghost use Rattle.temporal.specs.Run.{Valid, ValidRule};
-ghost use Rattle.ticket.specs.Writing.{content};
+ghost use Rattle.temporal.specs.Run.{Valid};
+ghost use Rattle.network.specs.Stored.{at};
+ghost use Rattle.ticket.specs.Writing.{rule_in, content};
 ghost use Rattle.potentials.specs.Arrays.{window_list, Within};
 ghost use Rattle.demands.specs.Rules.{Tests};
 ghost use Rattle.mirror.specs.Mirror.{mirror_windows};
 ghost use Rattle.mirror.specs.Cut.{Possible, cut_mirror, cut_mirror_bound};
 ghost use Rattle.mirror.specs.Structs.{Bounds, Below};
 
-// Whether ticks from 0 to the horizon can keep a rule with the start, which has tick 0; of a rule between events nothing is asked.
-fn possible(horizon: u32, from: u8, to: u8, bound: i32) -> bool
-    requires { ValidRule 255 (record { from = from; to = to; bound = bound }) }
-    ensures { Tests result (Possible horizon (record { from = from; to = to; bound = bound })) }
+// Whether ticks from 0 to the horizon can keep rule j with the start, which has tick 0; of a rule between events nothing is asked.
+#[tactic(auto, using(crate::proofs::Structs::few_rules))]
+fn possible(t: &ticket::Ticket, j: usize) -> bool
+    requires valid { Valid (content t.now) }
+    requires j_in_bounds { j < t.now.rules }
+    ensures { Tests result (Possible t.now.horizon (rule_in t.now j)) }
 {
-    if 0 <= bound {
-        return true;
+    match (t.from[j], t.to[j]) {
+        (0, _) => 0 <= t.bound[j],
+        (_, 0) => -(t.horizon as i32) <= t.bound[j],
+        _ => true,
     }
-    if from == 0 {
-        return false;
-    }
-    if to != 0 {
-        return true;
-    }
-    let k = -1 - bound;
-    if (k as u32) < horizon {
-        return true;
-    }
-    false
 }
 
 // Whether every rule is so. Where one is not, there is no schedule.
@@ -40,52 +34,33 @@ pub fn all_possible(t: ticket::Ticket) -> bool
     requires { Valid (content t) }
     ensures { Tests result (All (Possible t.horizon) (content t).rules) }
 {
-    let mut j = 0;
-    while j < t.rules {
-        let from = t.from[j];
-        let to = t.to[j];
-        let bound = t.bound[j];
-        if possible(t.horizon, from, to, bound) {
-            j += 1;
-        } else {
-            return false;
-        }
-    }
-    true
+    (0..t.rules).all(|j| possible(&t, j))
 }
 
-// The bound of the mirror of a rule: from point 0 the horizon less, to point 0 the horizon more and cut at it.
-fn mirror_bound(horizon: u32, from: u8, to: u8, bound: i32) -> i32
-    requires horizon_bound { horizon ≤ 1000000 }
-    requires valid_rule { ValidRule 255 (record { from = from; to = to; bound = bound }) }
-    ensures { result ≡ cut_mirror_bound horizon from to bound }
+// The bound of the mirror of rule j: from point 0 the horizon less, to point 0 the horizon more and cut at it.
+#[tactic(auto, using(crate::proofs::Structs::few_rules))]
+fn mirror_bound(t: &ticket::Ticket, j: usize) -> i32
+    requires valid { Valid (content t.now) }
+    requires j_in_bounds { j < t.now.rules }
+    ensures { result ≡ cut_mirror_bound t.now.horizon (at t.now.from j) (at t.now.to j) (get_or t.now.bound j (pos 0)) }
 {
-    let h = horizon as i32;
-    if from == 0 {
-        return bound - h;
+    let h = t.horizon as i32;
+    match (t.from[j], t.to[j]) {
+        (0, _) => t.bound[j] - h,
+        (_, 0) => (t.bound[j] + h).min(h),
+        _ => t.bound[j],
     }
-    if to != 0 {
-        return bound;
-    }
-    if 0 <= bound {
-        return h;
-    }
-    bound + h
 }
 
 // The bounds of the mirrors of all rules.
-fn mirror_bounds(t: ticket::Ticket) -> [i32; 256]
-    requires { Valid (content t) }
-    ensures { Bounds t result t.rules }
+#[tactic(auto, using(crate::proofs::Structs::few_rules))]
+fn mirror_bounds(t: &ticket::Ticket) -> [i32; 256]
+    requires { Valid (content t.now) }
+    ensures { Bounds t.now result t.now.rules }
 {
     let mut bounds = [0i32; 256];
-    let mut j = 0;
-    while j < t.rules {
-        let from = t.from[j];
-        let to = t.to[j];
-        let bound = t.bound[j];
-        bounds[j] = mirror_bound(t.horizon, from, to, bound);
-        j += 1;
+    for j in 0..t.rules {
+        bounds[j] = mirror_bound(t, j);
     }
     bounds
 }
@@ -95,18 +70,11 @@ pub fn mirror_ticket(t: ticket::Ticket) -> ticket::Ticket
     requires { Valid (content t) }
     ensures { content result ≡ cut_mirror (content t) }
 {
-    let owners = t.owners;
-    let from = t.to;
-    let to = t.from;
-    let bound = mirror_bounds(t);
     ticket::Ticket {
-        horizon: t.horizon,
-        events: t.events,
-        owners,
-        rules: t.rules,
-        from,
-        to,
-        bound,
+        from: t.to,
+        to: t.from,
+        bound: mirror_bounds(&t),
+        ..t
     }
 }
 
@@ -117,11 +85,7 @@ pub fn mirror_windows(horizon: u32, n: usize, opens: &mut [u32; 40], closes: &mu
     ensures closes_after { window_list n opens.new closes.new ≡ mirror_windows horizon (window_list n opens.old closes.old) }
     ensures within { Within n opens.old opens.new × Within n closes.old closes.new }
 {
-    let mut i = 0;
-    while i < n {
-        let open = opens[i];
-        opens[i] = horizon - closes[i];
-        closes[i] = horizon - open;
-        i += 1;
+    for i in 0..n {
+        (opens[i], closes[i]) = (horizon - closes[i], horizon - opens[i]);
     }
 }

@@ -1,5 +1,5 @@
 -- What the code has answered and written at each of its returns. Rests on `parts`' Parting and Parted, on part_windows' IsPart, and on `ticket` for what reading answers.
-use Rattle.std.specs.Prelude.{ℕ, suc, ◌+◌, ◌*◌, ◌≤◌, ◌<◌, ◌≡◌, List, true, ◌≢◌, get_or}
+use Rattle.std.specs.Prelude.{ℕ, suc, ◌+◌, ◌*◌, ◌≤◌, ◌<◌, ◌≡◌, List, true, get_or, Ok, Err}
 use Rattle.std.proofs.Common.{sym, ◌∙◌, arith}
 use Rattle.std.proofs.Math.Path.{ap, subst}
 use Rattle.std.proofs.Math.ListN.{length}
@@ -15,7 +15,10 @@ use Rattle.ticket.proofs.Agree.{firsts_cong}
 use Rattle.ticket.specs.Stored.{whole_ticket}
 use Rattle.ticket.proofs.RoundTrip.{length_bytes}
 use Rattle.ticket.proofs.Content.{read_refused, read_got, read_content}
-use Rattle.ticket.specs.declared.ReadTicket.{ReadTicket}
+use Rattle.ticket.specs.Refusal.{number_of}
+use Rattle.ticket.proofs.Refusals.{refusal_number}
+use Rattle.ticket.specs.declared.Ticket.{Ticket}
+use Rattle.ticket.specs.declared.Refusal.{Refusal}
 use Rattle.writing.specs.Stores.{sets_over, sets_then}
 use Rattle.potentials.specs.Arrays.{window_at_lem}
 use Rattle.parts.specs.Part.{members, part_total}
@@ -25,9 +28,8 @@ use Rattle.parts.proofs.Parting.{parting_read, parted_some}
 use Rattle.parts.proofs.Parted.{length_part, part_size}
 use Rattle.part_windows.specs.declared.Part.{Part}
 use Rattle.part_windows.specs.Planned.{IsPart}
-use Rattle.part.specs.Returned.{returned}
+use Rattle.part.specs.Returned.{Answer, returned}
 use Rattle.part.specs.Stored.{numbered_in}
-use Rattle.part.specs.declared.Answer.{Answer}
 
 -- a is what the outcome returns, and `out` its output
 abbrev pub Meets : Outcome → Answer → List ℕ → Type 0
@@ -70,13 +72,14 @@ module _ (k : temporal.Ticket) (v : Valid k) (d : ℕ) {p : Part} (I : IsPart d 
 
 -- ---- reading
 
-module _ (ticket : List ℕ) (d : ℕ) (out : List ℕ) (l : 362 ≤ length out) (m : d ≤ 4) {x : ReadTicket} (e : x ≡ whole_ticket ticket) where
-  pub ticket_misread : {a : Answer} → x.number ≢ 0 → a ≡ record { number = x.number; length = 0; total = 0 } → Meets (parting ticket d out) a out
-  ticket_misread n q =
-      let c = read_refused ticket e n in
-      meets_refused (parting_read ticket d out l m ∙ ap (after_reading d out) c.1) (q ∙ ap (λ (r : ℕ). record { number = r; length = 0; total = 0 }) c.2)
+module _ (ticket : List ℕ) (d : ℕ) (out : List ℕ) (l : 362 ≤ length out) (m : d ≤ 4) where
+  pub ticket_misread : {a : Answer} {e : Refusal} → Err e ≡ whole_ticket ticket → a ≡ record { number = number_of e; length = 0; total = 0 } → Meets (parting ticket d out) a out
+  ticket_misread e q =
+      let c = read_refused ticket e in
+      meets_refused (parting_read ticket d out l m ∙ ap (after_reading d out) c.1)
+      (q ∙ ap (λ (r : ℕ). record { number = r; length = 0; total = 0 }) (ap number_of c.2 ∙ refusal_number c.0))
 
-  pub ticket_parted : {a : Answer} {out' : List ℕ} → x.number ≡ 0 → Meets (parted d (content x.ticket) out) a out' → Meets (parting ticket d out) a out'
-  ticket_parted {a} {out'} z h =
+  pub ticket_parted : {t : Ticket} → Ok t ≡ whole_ticket ticket → {a : Answer} {out' : List ℕ} → Meets (parted d (content t) out) a out' → Meets (parting ticket d out) a out'
+  ticket_parted e {a} {out'} h =
       subst (λ o. Meets o a out')
-      (ap (λ k. parted d k out) (read_content ticket e z) ∙ ap (after_reading d out) (sym (read_got ticket e z).2) ∙ sym (parting_read ticket d out l m)) h
+      (ap (λ k. parted d k out) (read_content ticket e) ∙ ap (after_reading d out) (sym (read_got ticket e).2) ∙ sym (parting_read ticket d out l m)) h

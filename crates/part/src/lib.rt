@@ -11,11 +11,10 @@ ghost use Rattle.network.specs.Stored.{at};
 ghost use Rattle.ticket.specs.Writer.{bytes, each};
 ghost use Rattle.ticket.specs.Writing.{firsts, content};
 ghost use Rattle.parts.specs.Parting.{write_numbered, parted, parting};
-ghost use Rattle.part.specs.Returned.{returned};
+ghost use Rattle.part.specs.Returned.{returned, told};
 ghost use Rattle.part.specs.Stored.{numbered_in};
 
-use part_windows::Part;
-use ticket::Ticket;
+use ticket::{Refusal, Ticket};
 
 // A part holds its count, of two bytes, and 40 events, of nine bytes each.
 pub const PART_BYTES: usize = 362;
@@ -34,70 +33,47 @@ fn put_events<'a>(
     requires { (n ≤ 40) × (362 ≤ length out.old) × ((q : ℕ) → q < n → at points.now (suc q) ≤ 40) }
     ensures { out.new ≡ sets out.old 2 (each write_numbered (firsts n (numbered_in points.now opens.now closes.now))) }
 {
-    let mut i = 0;
-    while i < n {
+    for i in 0..n {
         let event = points[i + 1] as u8;
         writing_records::put_window(out, 2 + 9 * i, event, opens[i], closes[i]);
-        i += 1;
     }
 }
 
-// The number of the refusal, 0 when accepted; the part's length and its total, 0 when refused.
-#[derive(Drop)]
-pub struct Answer {
-    pub number: u32,
+// An accepted call: the part's length and its total.
+#[derive(Clone, Copy, Debug, PartialEq, Eq)]
+pub struct Accepted {
     pub length: usize,
     pub total: u32,
 }
 
-fn refusal(number: u32) -> Answer
-    ensures { result ≡ record { number = number; length = 0; total = 0 } }
-{
-    Answer {
-        number,
-        length: 0,
-        total: 0,
-    }
-}
-
 // The device's part of a ticket that was read, into the output.
-fn write_part(t: Ticket, device: u8, out: &mut [u8]) -> Answer
+fn write_part(t: Ticket, device: u8, out: &mut [u8]) -> Result<Accepted, Refusal>
     requires { Valid (content t) × (362 ≤ length out.old) }
-    ensures value { result ≡ returned (parted device (content t) out.old) }
+    ensures value { told result ≡ returned (parted device (content t) out.old) }
     ensures out_after { out.new ≡ (parted device (content t) out.old).out }
 {
-    let p = part_windows::plan_part(t, device);
-    if !p.found {
-        return refusal(9);
-    }
-    let n = p.events;
-    let points = p.points;
-    let opens = p.opens;
-    let closes = p.closes;
-    writing::put_u16(out, 0, n);
-    put_events(out, n, &points, &opens, &closes);
-    Answer {
-        number: 0,
-        length: 2 + 9 * n,
+    let Some(p) = part_windows::plan_part(t, device) else {
+        return Err(Refusal::Impossible);
+    };
+    writing::put_u16(out, 0, p.events);
+    put_events(out, p.events, &p.points, &p.opens, &p.closes);
+    Ok(Accepted {
+        length: 2 + 9 * p.events,
         total: p.total,
-    }
+    })
 }
 
 // The device's part of the ticket that the bytes hold: its events and their windows go into the output.
-pub fn part(ticket: &[u8], device: u32, out: &mut [u8]) -> Answer
-    ensures value { result ≡ returned (parting ticket.now device out.old) }
+pub fn part(ticket: &[u8], device: u32, out: &mut [u8]) -> Result<Accepted, Refusal>
+    ensures value { told result ≡ returned (parting ticket.now device out.old) }
     ensures out_after { out.new ≡ (parting ticket.now device out.old).out }
 {
     if out.len() < PART_BYTES {
-        return refusal(10);
+        return Err(Refusal::Room);
     }
     if DEVICES <= device {
-        return refusal(4);
+        return Err(Refusal::Owner);
     }
-    let read = reading::read_ticket(ticket);
-    if read.number != 0 {
-        return refusal(read.number);
-    }
-    let t = read.ticket;
+    let t = reading::read_ticket(ticket)?;
     write_part(t, device as u8, out)
 }

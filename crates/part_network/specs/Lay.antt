@@ -10,7 +10,6 @@ use Rattle.network.specs.Stored.{at}
 use Rattle.network.specs.Edges.{EdgeIs, Extends, extends_none, extends_trans, extends_edge, Put}
 use Rattle.potentials.specs.Arrays.{no_rule}
 use Rattle.potentials.specs.Nodes.{close_node}
-use Rattle.potentials.specs.Pairs.{PutPair}
 use Rattle.closure.specs.Signed.{bias, lower}
 use Rattle.closure.specs.Matrix.{entry}
 use Rattle.parts.specs.Part.{joined}
@@ -87,6 +86,3 @@ earliest_at points w i =
     let p : i + 1 ≡ suc i = omega arith in
     let q : 41 * at points (suc i) ≡ 41 * at points (suc i) + 0 = omega arith in
     rw p (ap (λ k. 2000000 - at w k) q)
-
-pub pair_same : {xs xs' : List ℕ} {n i x y : ℕ} → x ≡ y → PutPair xs xs' n i x x → PutPair xs xs' n i y y
-pair_same {xs} {xs'} {n} {i} e P = subst (λ z. PutPair xs xs' n i z z) e P

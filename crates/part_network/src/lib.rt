@@ -36,85 +36,66 @@ pub fn members(n: usize, owners: &[u8; 40], device: u8, points: &mut [usize; 41]
     ensures { Placed device (firsts n (at owners.now)) points.new result }
 {
     let mut m = 0;
-    let mut i = 0;
-    while i < n {
+    for i in 0..n {
         m = add_member(points, m, i + 1, owners[i], device);
-        i += 1;
     }
     m
 }
 
-// The biased cost of an entry.
-fn cost(x: u64) -> u32
-    requires { (1000000 ≤ x) × (x ≤ 3000000) }
-    ensures { result ≡ biased (lower x) }
-{
-    (x - 1_000_000) as u32
+// The distances between the points of a part of n events.
+#[derive(Clone, Copy)]
+struct Distances<'a> {
+    n: usize,
+    points: &'a [usize; 41],
+    w: &'a [u64; 1681],
+    ghost few: { n ≤ 40 },
+    ghost ranged: { Ranged n points.now w.now },
 }
 
-// Store the distance from the part's point i to its point j as edge e; none from a point to itself. Which edge is next.
-fn put_distance(
-    net: &mut [u32],
-    e: usize,
-    n: usize,
-    points: &[usize; 41],
-    w: &[u64; 1681],
-    i: usize,
-    j: usize,
-) -> usize
-    requires n_bound { (n ≤ 40) × (i ≤ n) × (j ≤ n) × (4 * e + 3 < length net.old) × (e < 4000) }
-    requires ranged { Ranged n points.now w.now }
-    ensures { Lays net.old net.new n e (rule_between (bound_in points.now w.now) i j) result }
-{
-    if i == j {
-        return e;
+impl<'a> Distances<'a> {
+    // The biased cost of the distance from point i to point j.
+    fn cost(&self, i: usize, j: usize) -> u32
+        requires { (i ≤ self.now.n) × (j ≤ self.now.n) }
+        ensures { result ≡ biased (bound_in self.now.points.now self.now.w.now i j) }
+    {
+        (self.w[41 * self.points[i] + self.points[j]] - 1_000_000) as u32
     }
-    let c = cost(w[41 * points[i] + points[j]]);
-    network::put(net, e, i, demands::close_node(n, j), c);
-    e + 1
-}
 
-// Store the distances from the part's point i, from edge e on. Which edge is next.
-fn put_row(
-    net: &mut [u32],
-    e: usize,
-    n: usize,
-    points: &[usize; 41],
-    w: &[u64; 1681],
-    i: usize,
-) -> usize
-    requires n_bound { (n ≤ 40) × (i ≤ n) × (4 * e + 164 ≤ length net.old) × (e < 3900) }
-    requires ranged { Ranged n points.now w.now }
-    ensures { Lays net.old net.new n e (joined (suc n) (rule_between (bound_in points.now w.now) i)) result }
-{
-    let mut next = e;
-    let mut j = 0;
-    while j <= n {
-        next = put_distance(net, next, n, points, w, i, j);
-        j += 1;
+    // Store the distance from point i to point j as edge e; none from a point to itself. Which edge is next.
+    fn put_one(&self, net: &mut [u32], e: usize, i: usize, j: usize) -> usize
+        requires { (i ≤ self.now.n) × (j ≤ self.now.n) × (4 * e + 3 < length net.old) × (e < 4000) }
+        ensures { Lays net.old net.new self.now.n e (rule_between (bound_in self.now.points.now self.now.w.now) i j) result }
+    {
+        if i == j {
+            return e;
+        }
+        network::put(net, e, i, demands::close_node(self.n, j), self.cost(i, j));
+        e + 1
     }
-    next
-}
 
-// Store the distances between all points of the part, from edge e on. Which edge is next.
-fn put_distances(
-    net: &mut [u32],
-    e: usize,
-    n: usize,
-    points: &[usize; 41],
-    w: &[u64; 1681],
-) -> usize
-    requires n_bound { (n ≤ 40) × (e ≤ 200) × (7364 ≤ length net.old) }
-    requires ranged { Ranged n points.now w.now }
-    ensures { Lays net.old net.new n e (all_rules n (bound_in points.now w.now)) result }
-{
-    let mut next = e;
-    let mut i = 0;
-    while i <= n {
-        next = put_row(net, next, n, points, w, i);
-        i += 1;
+    // Store the distances from point i, from edge e on. Which edge is next.
+    fn put_row(&self, net: &mut [u32], e: usize, i: usize) -> usize
+        requires { (i ≤ self.now.n) × (4 * e + 164 ≤ length net.old) × (e < 3900) }
+        ensures { Lays net.old net.new self.now.n e (joined (suc self.now.n) (rule_between (bound_in self.now.points.now self.now.w.now) i)) result }
+    {
+        let mut next = e;
+        for j in 0..=self.n {
+            next = self.put_one(net, next, i, j);
+        }
+        next
     }
-    next
+
+    // Store all distances, from edge e on. Which edge is next.
+    fn put_all(&self, net: &mut [u32], e: usize) -> usize
+        requires { (e ≤ 200) × (7364 ≤ length net.old) }
+        ensures { Lays net.old net.new self.now.n e (all_rules self.now.n (bound_in self.now.points.now self.now.w.now)) result }
+    {
+        let mut next = e;
+        for i in 0..=self.n {
+            next = self.put_row(net, next, i);
+        }
+        next
+    }
 }
 
 // Store the window network of the part: boxes from 0 to the horizon, the order of each window, and the distances. How many edges it has.
@@ -136,7 +117,7 @@ pub fn build(
     let high = [horizon; 81];
     network::boxes(net, 2 * n, &low, &high);
     demands::order(net, n);
-    put_distances(net, 5 * n, n, points, w)
+    Distances { n, points, w }.put_all(net, 5 * n)
 }
 
 // The earliest time of each event of the part, as a window that opens and closes then.
@@ -147,11 +128,9 @@ pub fn lay_earliest(n: usize, points: &[usize; 41], w: &[u64; 1681], pot: &mut [
     ensures { Pairs n (λ (i : ℕ). 2000000 - entry w.now (at points.now (suc i)) 0) (λ (i : ℕ). 2000000 - entry w.now (at points.now (suc i)) 0)
         pot.new n }
 {
-    let mut i = 0;
-    while i < n {
+    for i in 0..n {
         let x = (2_000_000 - w[41 * points[i + 1]]) as u32;
         pot[i + 1] = x;
         pot[n + i + 1] = x;
-        i += 1;
     }
 }

@@ -1,6 +1,6 @@
 -- From the best potential of a part's network to the windows of its plan. Rests on the laws of a struct's window network, for the struct that the part would have
 -- (part_network's `dense`).
-use Rattle.std.specs.Prelude.{ℕ, zero, suc, ◌+◌, ◌*◌, ◌-◌, ◌≤◌, ◌<◌, ◌≡◌, refl, true, List, [], ◌∷◌, map, T, length, get_or, replicate}
+use Rattle.std.specs.Prelude.{ℕ, zero, suc, ◌+◌, ◌*◌, ◌-◌, ◌≤◌, ◌<◌, ◌≡◌, refl, List, [], ◌∷◌, map, T, length, get_or, replicate}
 use Rattle.std.proofs.Common.{sym, ap₂, ◌∙◌, arith, ext_get_or}
 use Rattle.std.proofs.Math.Path.{ap, subst}
 use Rattle.std.proofs.lemmas.List.{length-map, get_or-replicate}
@@ -53,7 +53,6 @@ pub record GivenPart (t : Ticket) (d n : ℕ) (points w : List ℕ) : Type 0 whe
 
 -- what a part's struct says of a ticket with a schedule
 pub record IsPart (d : ℕ) (k : temporal.Ticket) (p : Part) : Type 0 where
-  pub found : p.found ≡ true
   pub counted : p.events ≡ length (members d k)
   pub few : p.events ≤ 40
   pub places : (q : ℕ) → q ≤ p.events → at p.points q ≡ point d k q

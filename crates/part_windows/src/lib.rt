@@ -4,7 +4,7 @@
 
 #![tactic(auto)]
 
-ghost use Rattle.std.specs.Prelude.{◌≡◌, true, false, ℕ, ◌+◌, ◌*◌, ◌<◌, ◌≤◌, T, length, replicate};
+ghost use Rattle.std.specs.Prelude.{◌≡◌, true, false, MatchOption, ℕ, ◌+◌, ◌*◌, ◌<◌, ◌≤◌, T, length, replicate};
 ghost use Rattle.temporal.specs.Distance.{consistent};
 ghost use Rattle.temporal.specs.Run.{Valid};
 ghost use Rattle.network.specs.Stored.{at};
@@ -20,66 +20,36 @@ ghost use Rattle.part_windows.specs.Planned.{GivenPart, IsPart};
 
 use ticket::Ticket;
 
-// The entries of a ticket's matrix after all stops, if it has a schedule.
-#[derive(Drop)]
-struct Closed {
-    found: bool,
-    entries: [u64; 1681],
-}
-
-// Room for the edges of the largest part, 200 of its windows and 1,640 distances, and for one more; as a call's result it is no list of literals in the proofs.
-fn part_edges() -> [u32; 7364]
-    ensures { length result ≡ 7364 }
-{
-    [0u32; 7364]
-}
-
-// Room for the edges of a ticket's rules and limits.
-fn ticket_edges() -> [u32; 1344]
-    ensures { length result ≡ 1344 }
-{
-    [0u32; 1344]
-}
-
-// The distances of a ticket. That it has a schedule is tested first, so that no stop has to be looked at.
-fn close(t: Ticket) -> Closed
+// The distances of a ticket: the entries of its matrix after all stops, if it has a schedule. That is tested first, so that no stop has to be looked at.
+fn close(t: Ticket) -> Option<[u64; 1681]>
     requires { Valid (content t) }
-    ensures found_value { result.found ≡ consistent (content t) }
-    ensures distances { result.found ≡ true → Distances (content t) t.events (entry result.entries) }
+    ensures { MatchOption result (consistent (content t) ≡ false)
+        (λ w. (consistent (content t) ≡ true) × Distances (content t) t.events (entry w)) }
 {
-    let n = t.events;
-    let mut net = ticket_edges();
+    // room for the edges of a ticket's rules and limits
+    let mut net = [0u32; 1344];
     let mut times = [0u32; 81];
-    let mut entries = stops::first_entries(t);
     if !schedule::schedule(&mut net, t, &mut times) {
-        return Closed {
-            found: false,
-            entries,
-        };
+        return None;
     }
+    let n = t.events;
+    let mut entries = stops::first_entries(t);
     closure::take_stops(&mut entries, n, n + 1);
-    Closed {
-        found: true,
-        entries,
-    }
-}
-
-// A list of the edges of the largest part that are no box edges, still empty.
-fn list() -> [u32; 1761]
-    ensures { (length result ≡ 1761) × ((k : ℕ) → k < 81 → at result k ≡ 0) }
-{
-    [0u32; 1761]
+    Some(entries)
 }
 
 // From a potential that keeps the network to the widest one that is least, each event with the weight of the device.
+// Its lists are longer than those of `windows::widest`. One function for both would have their length as a const parameter, and `tools/arrays` could not read off the
+// code that planning has no array above 400.
 fn widest(net: &mut [u32], n: usize, m: usize, device: u8, pot: &mut [u32; 81])
     requires n_bound { (n ≤ 40) × (m ≤ 4 * n + 1680) }
     requires flowless { Flowless net.old m (2 * n + 1) pot.old }
     requires spans { Spans net.old m n }
     ensures { Widened net.old m n (replicate 40 device) pot.new }
 {
-    let mut tails = list();
-    let mut heads = list();
+    // lists of the edges of the largest part that are no box edges
+    let mut tails = [0u32; 1761];
+    let mut heads = [0u32; 1761];
     let mut weight = [0u32; 81];
     let owners = [device; 40];
     windows::weigh(n, &owners, &mut weight);
@@ -100,7 +70,8 @@ fn plan_points(
     requires opens_len { (length opens.old ≡ 40) × (length closes.old ≡ 40) }
     ensures { window_list n opens.new closes.new ≡ part_plan device (content t) }
 {
-    let mut net = part_edges();
+    // room for the edges of the largest part, 200 of its windows and 1,640 distances, and for one more
+    let mut net = [0u32; 7364];
     let mut pot = [0u32; 81];
     let m = part_network::build(&mut net, t.horizon, n, points, w);
     part_network::lay_earliest(n, points, w, &mut pot);
@@ -108,10 +79,9 @@ fn plan_points(
     potentials::read_windows(n, &pot, opens, closes);
 }
 
-// A part: whether the ticket has a schedule, how many events it has, their numbers from place 1 on, the windows of its plan, and their total.
-#[derive(Drop)]
+// A part of a ticket that has a schedule: how many events it has, their numbers from place 1 on, the windows of its plan, and their total.
+#[derive(Clone, Copy)]
 pub struct Part {
-    pub found: bool,
     pub events: usize,
     pub points: [usize; 41],
     pub opens: [u32; 40],
@@ -133,7 +103,6 @@ fn part_of(t: Ticket, device: u8, w: &[u64; 1681]) -> Part
     let own = [device; 40];
     let total = fitness::total_of(events, &own, &opens, &closes);
     Part {
-        found: true,
         events,
         points,
         opens,
@@ -142,31 +111,14 @@ fn part_of(t: Ticket, device: u8, w: &[u64; 1681]) -> Part
     }
 }
 
-// No part, of a ticket that has no schedule.
-fn none() -> Part
-    ensures { result.found ≡ false }
-{
-    Part {
-        found: false,
-        events: 0,
-        points: [0usize; 41],
-        opens: [0u32; 40],
-        closes: [0u32; 40],
-        total: 0,
-    }
-}
-
 // The device's part of a ticket, if it has a schedule.
-pub fn plan_part(t: Ticket, device: u8) -> Part
+pub fn plan_part(t: Ticket, device: u8) -> Option<Part>
     requires { Valid (content t) }
-    ensures found_value { result.found ≡ consistent (content t) }
-    ensures part { result.found ≡ true → IsPart device (content t) result }
+    ensures { MatchOption result (consistent (content t) ≡ false)
+        (λ p. (consistent (content t) ≡ true) × IsPart device (content t) p) }
 {
-    let c = close(t);
-    if !c.found {
-        return none();
-    }
-    part_of(t, device, &c.entries)
+    let entries = close(t)?;
+    Some(part_of(t, device, &entries))
 }
 
 // The totals of the five parts of a ticket that has a schedule, in owner order.
@@ -174,12 +126,12 @@ pub fn totals(t: Ticket) -> [u32; ticket::DEVICES]
     requires { Valid (content t) × T (consistent (content t)) }
     ensures { result ≡ part_totals (content t) }
 {
-    let c = close(t);
-    let camera = part_of(t, 0, &c.entries);
-    let wheel = part_of(t, 1, &c.entries);
-    let lamps = part_of(t, 2, &c.entries);
-    let stage = part_of(t, 3, &c.entries);
-    let database = part_of(t, 4, &c.entries);
+    let entries = close(t).unwrap();
+    let camera = part_of(t, 0, &entries);
+    let wheel = part_of(t, 1, &entries);
+    let lamps = part_of(t, 2, &entries);
+    let stage = part_of(t, 3, &entries);
+    let database = part_of(t, 4, &entries);
     [
         camera.total,
         wheel.total,

@@ -9,6 +9,8 @@ ghost use Rattle.search.specs.Tree.{Linked};
 ghost use Rattle.path.specs.Way.{Roomy};
 ghost use Rattle.path.specs.Push.{Walkable, Walked, Loaded, Sends};
 
+use search::Trail;
+
 // The other end of an edge from a to b, seen from cur.
 fn other(a: usize, b: usize, cur: usize) -> usize
     ensures { (a ≡ cur → result ≡ b) × ((a ≡ cur → ⊥) → result ≡ a) }
@@ -40,29 +42,20 @@ fn walk(net: &mut [u32], e: usize, cur: usize, f: u32) -> usize
 fn spare(x: u32, a: usize, cur: usize, f: u32) -> u32
     ensures { (a ≡ cur → result ≡ f) × ((a ≡ cur → ⊥) → result ≡ min f x) }
 {
-    if a == cur { f } else { network::least(f, x) }
+    if a == cur { f } else { f.min(x) }
 }
 
-// How much of want units the links from start to root have room for.
-fn room(
-    net: &[u32],
-    m: usize,
-    nodes: usize,
-    stamp: &[usize; 81],
-    via: &[usize; 81],
-    root: usize,
-    start: usize,
-    want: u32,
-) -> u32
+// How much of want units the links from start to the root have room for.
+fn room(net: &[u32], m: usize, nodes: usize, trail: &Trail, start: usize, want: u32) -> u32
     requires network { Network net.now m nodes }
-    requires linked { Linked net.now m nodes stamp.now via.now root }
-    requires start_lt_nodes { (start < nodes) × (0 < at stamp.now start) × (0 < want) }
-    ensures { Roomy net.now via.now root start want result }
+    requires linked { Linked net.now m nodes trail.now.stamp trail.now.via trail.now.root }
+    requires start_lt_nodes { (start < nodes) × (0 < at trail.now.stamp start) × (0 < want) }
+    ensures { Roomy net.now trail.now.via trail.now.root start want result }
 {
     let mut f = want;
     let mut cur = start;
-    while cur != root {
-        let p = 4 * via[cur];
+    while cur != trail.root {
+        let p = 4 * trail.via[cur];
         let a = net[p] as usize;
         let b = net[p + 1] as usize;
         f = spare(net[p + 3], a, cur, f);
@@ -71,27 +64,23 @@ fn room(
     f
 }
 
-// Push flow from start along the links to root: of the supply of start and of want as much as the links have room for. The result is how much.
+// Push flow from start along the links to the root: of the supply of start and of want as much as the links have room for. The result is how much.
 pub fn push(
     net: &mut [u32],
     m: usize,
     nodes: usize,
-    stamp: &[usize; 81],
-    via: &[usize; 81],
-    root: usize,
+    trail: &Trail,
     start: usize,
     supply: &mut [u32; 81],
     want: u32,
 ) -> u32
-    requires { Loaded net.old m nodes stamp.now via.now root start supply.old want }
-    ensures { Sends net.old net.new m nodes stamp.now via.now root start supply.old supply.new want result }
+    requires { Loaded net.old m nodes trail.now.stamp trail.now.via trail.now.root start supply.old want }
+    ensures { Sends net.old net.new m nodes trail.now.stamp trail.now.via trail.now.root start supply.old supply.new want result }
 {
-    let most = network::least(supply[start], want);
-    let f = room(net, m, nodes, stamp, via, root, start, most);
+    let f = room(net, m, nodes, trail, start, supply[start].min(want));
     let mut cur = start;
-    while cur != root {
-        let e = via[cur];
-        cur = walk(net, e, cur, f);
+    while cur != trail.root {
+        cur = walk(net, trail.via[cur], cur, f);
     }
     carry::take(supply, start, f);
     f

@@ -1,5 +1,5 @@
 -- Laws for the proofs of the code in src/lib.rt. What the calls mean stands in crate `runs` (Calls), with the theorem over runs.
---   Returned  the part of an outcome that the answer struct holds: the contracts are equations through it
+--   Returned  what an outcome and an answer are by their numbers: the contracts are equations through it
 --   Steps     one planning and one commitment as the code takes them
 --   Meets     what the inner functions leave before the scratch is cleared
 pub mod Returned

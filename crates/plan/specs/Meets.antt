@@ -1,6 +1,6 @@
 -- What the code's inner functions leave, as far as it is settled before the scratch is cleared: the answer, the output, and the scratch past its first 2,400 numbers.
 -- The laws follow the code: a refusal, an accepted call, a reading, the two doors, and the same calls with scratch of their own.
-use Rattle.std.specs.Prelude.{◌≡◌, refl, List, ℕ, ◌≤◌, ◌<◌, length}
+use Rattle.std.specs.Prelude.{◌≡◌, refl, List, ℕ, ◌≤◌, ◌<◌, length, Ok, Err}
 use Rattle.std.proofs.Common.{sym, ap, subst, ◌∙◌}
 use Rattle.temporal.specs.Ticket as temporal
 use Rattle.temporal.specs.Ticket.{total}
@@ -12,8 +12,11 @@ use Rattle.ticket.specs.Writer.{write_state}
 use Rattle.ticket.specs.Writing.{content, state_of, over}
 use Rattle.ticket.specs.Stored.{whole_ticket, whole_record}
 use Rattle.ticket.specs.RoundTrip.{Bytes}
-use Rattle.ticket.specs.declared.ReadTicket.{ReadTicket}
-use Rattle.ticket.specs.declared.ReadRecord.{ReadRecord}
+use Rattle.ticket.specs.Refusal.{number_of}
+use Rattle.ticket.proofs.Refusals.{refusal_number}
+use Rattle.ticket.specs.declared.Ticket.{Ticket}
+use Rattle.ticket.specs.declared.Record.{Record}
+use Rattle.ticket.specs.declared.Refusal.{Refusal}
 use Rattle.causes.specs.Zeroed.{past, zeroed_rest}
 use Rattle.runs.specs.Calls.{Outcome, cleared, without_room, answered, after_reading, planning, planning_latest, commit_for, commit_read, committing}
 use Rattle.runs.proofs.Calls.{enough_room, no_room_out, planning_short, planning_read, planning_latest_short, planning_latest_read, committing_short, committing_read}
@@ -22,8 +25,7 @@ use Rattle.runs.specs.Scratch.{Alike}
 use Rattle.runs.proofs.Scratch.{read_alike, commit_read_alike}
 use Rattle.ticket.proofs.Content.{read_refused, read_got, read_content}
 use Rattle.causes.specs.Structs as records
-use Rattle.plan.specs.Returned.{returned}
-use Rattle.plan.specs.declared.Answer.{Answer}
+use Rattle.plan.specs.Returned.{Answer, returned}
 
 -- a is what the outcome returns, out its output; the scratch is as `before` past its first 2,400 numbers
 pub record Meets (o : Outcome) (before : List ℕ) (a : Answer) (out scratch : List ℕ) : Type 0 where
@@ -62,18 +64,18 @@ meets_misread decide {out} {scratch} k q = record {
   rest_is = refl;
 }
 
-module _ (ticket : List ℕ) {x : ReadTicket} (e : x ≡ whole_ticket ticket) where
-  pub ticket_misread : (decide : temporal.Ticket → Decision) {out scratch : List ℕ} {a : Answer} → (x.number ≡ 0 → ⊥) → a ≡ record { number = x.number; length = 0; total = 0 }
-      → Meets (after_reading out scratch decide (wholly read_ticket ticket)) scratch a out scratch
-  ticket_misread decide n q = meets_misread decide (read_refused ticket e n) q
+module _ (ticket : List ℕ) where
+  pub ticket_misread : (decide : temporal.Ticket → Decision) {out scratch : List ℕ} {a : Answer} {r : Refusal} → Err r ≡ whole_ticket ticket
+      → a ≡ record { number = number_of r; length = 0; total = 0 } → Meets (after_reading out scratch decide (wholly read_ticket ticket)) scratch a out scratch
+  ticket_misread decide e q = let k = read_refused ticket e in
+      meets_misread decide (k.0, k.1, ap number_of k.2 ∙ refusal_number k.0) q
 
-  module _ (z : x.number ≡ 0) where
-    pub ticket_meets : (decide : temporal.Ticket → Decision) (out : List ℕ) {scratch : List ℕ} {a : Answer} {out' scratch' : List ℕ}
-        → Meets (answered out scratch (decide (content x.ticket))) scratch a out' scratch'
-        → Meets (after_reading out scratch decide (wholly read_ticket ticket)) scratch a out' scratch'
-    ticket_meets decide out {scratch} {a} {out'} {scratch'} m =
-        subst (λ o. Meets o scratch a out' scratch')
-        (ap (λ k. answered out scratch (decide k)) (read_content ticket e z) ∙ ap (after_reading out scratch decide) (sym (read_got ticket e z).2)) m
+  pub ticket_meets : {t : Ticket} → Ok t ≡ whole_ticket ticket → (decide : temporal.Ticket → Decision) (out : List ℕ) {scratch : List ℕ} {a : Answer} {out' scratch' : List ℕ}
+      → Meets (answered out scratch (decide (content t))) scratch a out' scratch'
+      → Meets (after_reading out scratch decide (wholly read_ticket ticket)) scratch a out' scratch'
+  ticket_meets e decide out {scratch} {a} {out'} {scratch'} m =
+      subst (λ o. Meets o scratch a out' scratch')
+      (ap (λ k. answered out scratch (decide k)) (read_content ticket e) ∙ ap (after_reading out scratch decide) (sym (read_got ticket e).2)) m
 
 -- ---- the readings of a commitment
 
@@ -83,20 +85,20 @@ module _ (bytes : List ℕ) (caller event opens closes : ℕ) (out : List ℕ) {
       → Meets (commit_read bytes caller event opens closes out scratch) scratch a out scratch
   caller_unknown l q = rw (commit_read_unknown bytes caller event opens closes out scratch l) (record { answer_is = q; output_is = refl; rest_is = refl })
 
-  module _ (known : caller ≤ 4) {x : ReadRecord} (e : x ≡ whole_record bytes) where
-    pub record_misread : {a : Answer} → (x.number ≡ 0 → ⊥) → a ≡ record { number = x.number; length = 0; total = 0 }
+  module _ (known : caller ≤ 4) where
+    pub record_misread : {a : Answer} {r : Refusal} → Err r ≡ whole_record bytes → a ≡ record { number = number_of r; length = 0; total = 0 }
         → Meets (commit_read bytes caller event opens closes out scratch) scratch a out scratch
-    record_misread n q =
+    record_misread e q = let k = records.read_refused bytes e in
         rw (commit_read_known bytes caller event opens closes out scratch known)
-        (meets_misread (commit_for caller event opens closes) (records.read_refused bytes e n) q)
+        (meets_misread (commit_for caller event opens closes) (k.0, k.1, ap number_of k.2 ∙ refusal_number k.0) q)
 
-    pub record_meets : x.number ≡ 0 → Bytes bytes → {a : Answer} {out' scratch' : List ℕ}
-        → Meets (answered out scratch (commit_for caller event opens closes (state_of x.plan))) scratch a out' scratch'
+    pub record_meets : {r : Record} → Ok r ≡ whole_record bytes → Bytes bytes → {a : Answer} {out' scratch' : List ℕ}
+        → Meets (answered out scratch (commit_for caller event opens closes (state_of r))) scratch a out' scratch'
         → Meets (commit_read bytes caller event opens closes out scratch) scratch a out' scratch'
-    record_meets z b {a} {out'} {scratch'} m =
+    record_meets e b {a} {out'} {scratch'} m =
         subst (λ o. Meets o scratch a out' scratch')
-        (ap (λ s. answered out scratch (commit_for caller event opens closes s)) (records.read_state_lem bytes e z b)
-        ∙ ap (after_reading out scratch (commit_for caller event opens closes)) (sym (records.read_got bytes e z).2)
+        (ap (λ s. answered out scratch (commit_for caller event opens closes s)) (records.read_state_lem bytes e b)
+        ∙ ap (after_reading out scratch (commit_for caller event opens closes)) (sym (records.read_got bytes e).2)
         ∙ sym (commit_read_known bytes caller event opens closes out scratch known)) m
 
 -- ---- the doors

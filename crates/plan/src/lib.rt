@@ -15,113 +15,100 @@ ghost use Rattle.ticket.specs.Writer.{write_state};
 ghost use Rattle.ticket.specs.Writing.{content, state_of, over};
 ghost use Rattle.causes.specs.Zeroed.{past};
 ghost use Rattle.runs.specs.Calls.{answered, after_reading, planning, planning_latest, commit_read, committing};
-ghost use Rattle.plan.specs.Returned.{returned};
+ghost use Rattle.plan.specs.Returned.{returned, told};
 ghost use Rattle.causes.specs.Structs.{Canonical};
 ghost use Rattle.plan.specs.Meets.{Meets};
+
+use ticket::{Record, Refusal, Ticket};
 
 // How many devices there are, in the type of a caller.
 const DEVICES: u32 = ticket::DEVICES as u32;
 
-// The number of the refusal, 0 when accepted; the record's length and its total width, 0 when refused.
-#[derive(Drop)]
-pub struct Answer {
-    pub number: u32,
+// An accepted call: the record's length and its total width.
+#[derive(Clone, Copy, Debug, PartialEq, Eq)]
+pub struct Accepted {
     pub length: usize,
     pub total: u32,
 }
 
-fn refusal(number: u32) -> Answer
-    ensures { result ≡ record { number = number; length = 0; total = 0 } }
-{
-    Answer {
-        number,
-        length: 0,
-        total: 0,
-    }
-}
-
 // Write the record into the output.
-fn write_out(r: ticket::Record, out: &mut [u8]) -> Answer
+fn write_out(r: Record, out: &mut [u8]) -> Accepted
     requires { Canonical r × (1958 ≤ length out.old) }
     ensures value { result ≡ record {
-      number = 0;
       length = length (write_state (state_of r));
       total = total (state_of r).ticket (state_of r).windows;
     } }
     ensures out_after { out.new ≡ over (write_state (state_of r)) out.old }
 {
-    let t = r.ticket;
-    let opens = r.opens;
-    let closes = r.closes;
-    let total = fitness::total(t, &opens, &closes);
+    let total = fitness::total(r.ticket, &r.opens, &r.closes);
     let length = writing_records::put_record(r, out);
-    Answer {
-        number: 0,
-        length,
-        total,
-    }
+    Accepted { length, total }
 }
 
-// Plan a ticket that was read: the latest plan where `latest` says so.
-fn plan_ticket(t: ticket::Ticket, latest: bool, out: &mut [u8], scratch: &mut [u32]) -> Answer
+// Plan a ticket that was read: the latest plan where `latest` says so. It is an input, of which the contract speaks (`plan_for latest`); a plan as a closure would bring
+// its whole contract along.
+fn plan_ticket(
+    t: Ticket,
+    latest: bool,
+    out: &mut [u8],
+    scratch: &mut [u32],
+) -> Result<Accepted, Refusal>
     requires valid { Valid (content t) }
     requires in_bounds { (1958 ≤ length out.old) × (1824 ≤ length scratch.old) }
-    ensures { Meets (answered out.old scratch.old (plan_for latest (content t))) scratch.old result out.new scratch.new }
+    ensures { Meets (answered out.old scratch.old (plan_for latest (content t))) scratch.old (told result) out.new scratch.new }
 {
-    let flags = [0u8; ticket::Ticket::EVENTS];
-    let mut opens = [0u32; ticket::Ticket::EVENTS];
-    let mut closes = [0u32; ticket::Ticket::EVENTS];
-    let found = latest::plan_windows(&mut scratch[..1824], t, latest, &mut opens, &mut closes);
-    if !found {
-        return refusal(9);
-    }
-    let r = ticket::Record {
+    let mut r = Record {
         ticket: t,
-        flags,
-        opens,
-        closes,
-        counts: [0u32; ticket::DEVICES],
+        flags: [0; Ticket::EVENTS],
+        opens: [0; Ticket::EVENTS],
+        closes: [0; Ticket::EVENTS],
+        counts: [0; ticket::DEVICES],
     };
-    write_out(r, out)
+    let found = latest::plan_windows(&mut scratch[..1824], t, latest, &mut r.opens, &mut r.closes);
+    if !found {
+        return Err(Refusal::Impossible);
+    }
+    Ok(write_out(r, out))
 }
 
-// Plan the ticket that the bytes hold, where there is room: the latest plan where `latest` says so. Of the scratch the first 1,824 numbers are used, and not
-// cleared.
-pub fn plan_bytes(ticket: &[u8], latest: bool, out: &mut [u8], scratch: &mut [u32]) -> Answer
+// Plan the ticket that the bytes hold, where there is room: the latest plan where `latest` says so (an input, as above). Of the scratch the first 1,824 numbers are
+// used, and not cleared.
+pub fn plan_bytes(
+    ticket: &[u8],
+    latest: bool,
+    out: &mut [u8],
+    scratch: &mut [u32],
+) -> Result<Accepted, Refusal>
     requires { (1958 ≤ length out.old) × (1824 ≤ length scratch.old) }
     ensures { Meets (after_reading out.old scratch.old (plan_for latest) (wholly read_ticket ticket.now))
-        scratch.old result out.new scratch.new }
+        scratch.old (told result) out.new scratch.new }
 {
-    let read = reading::read_ticket(ticket);
-    if read.number != 0 {
-        return refusal(read.number);
-    }
-    let t = read.ticket;
+    let t = reading::read_ticket(ticket)?;
     plan_ticket(t, latest, out, scratch)
 }
 
 // Plan the ticket that the bytes hold: the record goes into the output.
-pub fn plan(ticket: &[u8], out: &mut [u8], scratch: &mut [u32]) -> Answer
-    ensures value { result ≡ returned (planning ticket.now out.old scratch.old) }
+pub fn plan(ticket: &[u8], out: &mut [u8], scratch: &mut [u32]) -> Result<Accepted, Refusal>
+    ensures value { told result ≡ returned (planning ticket.now out.old scratch.old) }
     ensures out_after { out.new ≡ (planning ticket.now out.old scratch.old).out }
     ensures scratch_after { scratch.new ≡ (planning ticket.now out.old scratch.old).scratch }
 {
     if causes::short(out.len(), scratch.len()) {
-        return refusal(10);
+        return Err(Refusal::Room);
     }
     let answer = plan_bytes(ticket, false, out, scratch);
     causes::clear(scratch);
     answer
 }
 
-// The latest plan of the ticket that the bytes hold: the record goes into the output.
-pub fn plan_latest(ticket: &[u8], out: &mut [u8], scratch: &mut [u32]) -> Answer
-    ensures value { result ≡ returned (planning_latest ticket.now out.old scratch.old) }
+// The latest plan of the ticket that the bytes hold: the record goes into the output. A function of its own beside `plan`, since each is an equation with its own outcome.
+pub fn plan_latest(ticket: &[u8], out: &mut [u8], scratch: &mut [u32]) -> Result<Accepted, Refusal>
+    ensures value { told result ≡ returned (planning_latest ticket.now out.old scratch.old) }
     ensures out_after { out.new ≡ (planning_latest ticket.now out.old scratch.old).out }
     ensures scratch_after { scratch.new ≡ (planning_latest ticket.now out.old scratch.old).scratch }
 {
     if causes::short(out.len(), scratch.len()) {
-        return refusal(10);
+        return Err(Refusal::Room);
     }
     let answer = plan_bytes(ticket, true, out, scratch);
     causes::clear(scratch);
@@ -130,63 +117,50 @@ pub fn plan_latest(ticket: &[u8], out: &mut [u8], scratch: &mut [u32]) -> Answer
 
 // The record with the event committed to the window by the caller, and the free windows as wide as they can be.
 fn commit_event(
-    r: ticket::Record,
+    r: Record,
     caller: u32,
     event: u32,
     opens: u32,
     closes: u32,
     scratch: &mut [u32],
-) -> ticket::Record
+) -> Record
     requires canonical { Canonical r × (cause (state_of r) (asking caller event opens closes) ≡ 0) }
     requires in_bounds { 1824 ≤ length scratch.old }
     ensures canonical_2 { Canonical result × (commit (state_of r) (asking caller event opens closes) ≡ accepted (state_of result)) }
     ensures scratch_unchanged { past 2400 scratch.new ≡ past 2400 scratch.old }
 {
-    let t = r.ticket;
-    let mut flags = r.flags;
-    let mut firsts = r.opens;
-    let mut lasts = r.closes;
+    let mut next = r;
     windows::commit_window(
         &mut scratch[..1824],
-        t,
-        &mut flags,
-        &mut firsts,
-        &mut lasts,
+        r.ticket,
+        &mut next.flags,
+        &mut next.opens,
+        &mut next.closes,
         event as usize,
         opens,
         closes,
     );
-    let mut counts = r.counts;
-    counts[caller as usize] += 1;
-    ticket::Record {
-        ticket: t,
-        flags,
-        opens: firsts,
-        closes: lasts,
-        counts,
-    }
+    next.counts[caller as usize] += 1;
+    next
 }
 
 // Commit to a record that was read.
 fn commit_record(
-    r: ticket::Record,
+    r: Record,
     caller: u32,
     event: u32,
     opens: u32,
     closes: u32,
     out: &mut [u8],
     scratch: &mut [u32],
-) -> Answer
+) -> Result<Accepted, Refusal>
     requires { Canonical r × (caller ≤ 4) × (1958 ≤ length out.old) × (1824 ≤ length scratch.old) }
     ensures { Meets (answered out.old scratch.old (commit (state_of r) (asking caller event opens closes)))
-        scratch.old result out.new scratch.new }
+        scratch.old (told result) out.new scratch.new }
 {
-    let refused = causes::cause(r, caller, event, opens, closes);
-    if refused != 0 {
-        return refusal(refused);
-    }
+    causes::cause(r, caller, event, opens, closes)?;
     let next = commit_event(r, caller, event, opens, closes, scratch);
-    write_out(next, out)
+    Ok(write_out(next, out))
 }
 
 // Commit to the record that the bytes hold, where there is room. Of the scratch the first 1,824 numbers are used, and not cleared.
@@ -198,19 +172,15 @@ pub fn commit_bytes(
     closes: u32,
     out: &mut [u8],
     scratch: &mut [u32],
-) -> Answer
+) -> Result<Accepted, Refusal>
     requires { (1958 ≤ length out.old) × (1824 ≤ length scratch.old) }
     ensures { Meets (commit_read «record».now caller event opens closes out.old scratch.old)
-        scratch.old result out.new scratch.new }
+        scratch.old (told result) out.new scratch.new }
 {
     if DEVICES <= caller {
-        return refusal(19);
+        return Err(Refusal::Caller);
     }
-    let read = reading_records::read_record(record);
-    if read.number != 0 {
-        return refusal(read.number);
-    }
-    let r = read.plan;
+    let r = reading_records::read_record(record)?;
     commit_record(r, caller, event, opens, closes, out, scratch)
 }
 
@@ -223,13 +193,13 @@ pub fn commit(
     closes: u32,
     out: &mut [u8],
     scratch: &mut [u32],
-) -> Answer
-    ensures value { result ≡ returned (committing «record».now caller event opens closes out.old scratch.old) }
+) -> Result<Accepted, Refusal>
+    ensures value { told result ≡ returned (committing «record».now caller event opens closes out.old scratch.old) }
     ensures out_after { out.new ≡ (committing «record».now caller event opens closes out.old scratch.old).out }
     ensures scratch_after { scratch.new ≡ (committing «record».now caller event opens closes out.old scratch.old).scratch }
 {
     if causes::short(out.len(), scratch.len()) {
-        return refusal(10);
+        return Err(Refusal::Room);
     }
     let answer = commit_bytes(record, caller, event, opens, closes, out, scratch);
     causes::clear(scratch);

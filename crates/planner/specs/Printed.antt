@@ -1,5 +1,5 @@
 -- What the program prints for the bytes of a ticket, and how that follows from what planning returns and writes.
-use Rattle.std.specs.Prelude.{ℕ, ◌+◌, ◌≤◌, ◌<◌, ◌≡◌, refl, Bool, true, false, cond, List, [], ◌++◌, ◌≢◌, length, get_or, take}
+use Rattle.std.specs.Prelude.{ℕ, ◌+◌, ◌≤◌, ◌<◌, ◌≡◌, refl, Bool, true, false, cond, List, [], ◌++◌, ◌≢◌, length, get_or, take, Ok}
 use Rattle.std.proofs.Common.{sym, ap, ap₂, ◌∙◌, ⊎_elim, arith}
 use Rattle.std.proofs.Math.Path.{subst}
 use Rattle.std.proofs.Math.Dec.{T}
@@ -138,7 +138,7 @@ module _ (late : Bool) (ticket out scratch : List ℕ) where
       (answered read_ticket ticket)
 
 module _ {late : Bool} {ticket : List ℕ} {o : Outcome} {s : State} (d : Said late ticket o s) where
-  pub said_record : (n : ℕ) (xs : List ℕ) → n ≡ o.length → xs ≡ o.out → (whole_record (take n xs)).plan ≡ stored_state s
+  pub said_record : (n : ℕ) (xs : List ℕ) → n ≡ o.length → xs ≡ o.out → whole_record (take n xs) ≡ Ok (stored_state s)
   said_record n xs e f = rw (e, f, d.read)
 
   -- its ticket as a struct

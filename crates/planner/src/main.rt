@@ -12,20 +12,6 @@ use std::env::FillError;
 use std::io;
 use std::rt::Env;
 
-// The longest ticket, and one byte more: what is longer is refused for that byte.
-fn input() -> [u8; 1585]
-    ensures { 1585 ≡ length result }
-{
-    [0u8; 1585]
-}
-
-// The longest text: a heading of 27 bytes, 40 lines of 44, and one of 55.
-fn output() -> [u8; 1842]
-    ensures { 1842 ≡ length result }
-{
-    [0u8; 1842]
-}
-
 // Whether an argument of this number was given, of any length.
 fn is_given(rt: &impl Env, i: usize) -> bool {
     let mut word = [0u8; 6];
@@ -39,11 +25,13 @@ fn says_latest(rt: &impl Env) -> bool {
     word[..n] == b"latest"[..]
 }
 
-// Plan what stands on standard input, and print it.
+// Plan what stands on standard input, and print it; `latest` is what the arguments say.
 fn run(rt: HostRuntime, latest: bool) -> io::Result<()> {
-    let mut ticket = input();
+    // the longest ticket, and one byte more: what is longer is refused for that byte
+    let mut ticket = [0u8; 1585];
     let n = streams::read_full(&mut rt.stdin(), &mut ticket);
-    let mut text = output();
+    // the longest text: a heading of 27 bytes, 40 lines of 44, and one of 55
+    let mut text = [0u8; 1842];
     let k = print::print(&ticket[..n], latest, &mut text);
     rt.write_all(&text[..k])
 }

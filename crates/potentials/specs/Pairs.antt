@@ -1,38 +1,19 @@
--- What the loops over the events store: two numbers an event at i and n + i, and the windows that a potential gives.
+-- What is stored for the events: two numbers an event at i and n + i, and the windows that a potential gives.
 use Prim.Native.Nat.{ℕ, zero, suc, ◌+◌, ◌*◌, ◌≤◌, ◌<◌}
 use Rattle.std.specs.Prelude.{◌≡◌, Bool, true, false, List, eqb, length, set, replicate}
 use Rattle.std.proofs.Math.Path.{refl, ap}
 use Rattle.std.proofs.Common.{sym, ◌∙◌, length-set, get_or-set_same, get_or-set_other}
 use Rattle.std.proofs.Math.Bool.{cond}
 use native.Mathlib.Omega.{arith}
-use borrow.Author.Count.{below_none, below_more}
+use borrow.Author.Count.{below_more}
 use Rattle.temporal.proofs.Lists.{tab_cong}
 use Rattle.temporal.specs.Ticket.{Window}
-use Rattle.network.specs.Lists.{set_more}
 use Rattle.network.specs.Stored.{at}
 use Rattle.ticket.proofs.WritingLaws.{firsts_tab}
-use Rattle.potentials.specs.Arrays.{window_list, window_at_lem, Within, within_same}
+use Rattle.potentials.specs.Arrays.{window_list, window_at_lem, Within}
 use Rattle.potentials.specs.Nodes.{by_nodes, windows_of, potential_of, potential_open, potential_close}
 
 -- ---- two numbers an event
-
--- the pair of event i + 1 is stored
-pub record PutPair (xs xs' : List ℕ) (n i a b : ℕ) : Type 0 where
-  pub long : length xs' ≡ length xs
-  pub first : at xs' (suc i) ≡ a
-  pub second : at xs' (n + suc i) ≡ b
-  pub others : (j : ℕ) → (j ≡ suc i → ⊥) → (j ≡ n + suc i → ⊥) → at xs' j ≡ at xs j
-
-pub put_pair : (xs : List ℕ) (n i a b : ℕ) → i < n → n + suc i < length xs → PutPair xs (set (set xs (i + 1) a) (n + i + 1) b) n i a b
-put_pair xs n i a b lt l =
-    let p : i + 1 ≡ suc i = omega arith in
-    let q : n + i + 1 ≡ n + suc i = omega arith in
-    rw (p, q) record {
-      long = simp length-set refl;
-      first = get_or-set_other (set xs (suc i) a) (n + suc i) (suc i) b 0 (λ e. omega arith) ∙ get_or-set_same xs (suc i) a 0 (omega arith);
-      second = get_or-set_same (set xs (suc i) a) (n + suc i) b 0 (omega (arith, length-set xs (suc i) a));
-      others = λ j x y. get_or-set_other (set xs (suc i) a) (n + suc i) j b 0 y ∙ get_or-set_other xs (suc i) j a 0 x;
-    }
 
 -- an array of the nodes, with 0 at the origin
 pub record Nodes (xs : List ℕ) : Type 0 where
@@ -44,16 +25,6 @@ pub record Pairs (n : ℕ) (f g : ℕ → ℕ) (xs : List ℕ) (k : ℕ) : Type 
   pub nodes : Nodes xs
   pub first : (i : ℕ) → i < k → at xs (suc i) ≡ f i
   pub second : (i : ℕ) → i < k → at xs (n + suc i) ≡ g i
-
-pub pairs_none : (n : ℕ) (f g : ℕ → ℕ) (xs : List ℕ) → Nodes xs → Pairs n f g xs 0
-pairs_none n f g xs h = record { nodes = h; first = below_none _; second = below_none _ }
-
-pub pairs_more : {n : ℕ} {f g : ℕ → ℕ} {xs xs' : List ℕ} {k : ℕ} → k < n → Pairs n f g xs k → PutPair xs xs' n k (f k) (g k) → Pairs n f g xs' (k + 1)
-pairs_more {n} {f} {g} {xs} {xs'} {k} lt P U = record {
-  nodes = record { long = U.long ∙ P.nodes.long; origin = U.others 0 (λ e. omega arith) (λ e. omega arith) ∙ P.nodes.origin };
-  first = below_more (λ i. at xs' (suc i) ≡ f i) k (λ i l. U.others (suc i) (λ e. omega arith) (λ e. omega arith) ∙ P.first i l) U.first;
-  second = below_more (λ i. at xs' (n + suc i) ≡ g i) k (λ i l. U.others (n + suc i) (λ e. omega arith) (λ e. omega arith) ∙ P.second i l) U.second;
-}
 
 -- the boxes of a commitment: the least open and the greatest close
 abbrev pub low_open : List ℕ → List ℕ → ℕ → ℕ
@@ -138,33 +109,6 @@ limited {h} {n} {flags} {pot} opens closes few P e f = rw (e, f) record {
   };
 }
 
--- the times of the points, and those of the first k events at their closes too
-pub record Spreads (n : ℕ) (times xs : List ℕ) (k : ℕ) : Type 0 where
-  pub long : length xs ≡ 81
-  pub kept : (v : ℕ) → v ≤ n → at xs v ≡ at times v
-  pub second : (i : ℕ) → i < k → at xs (n + suc i) ≡ at times (suc i)
-
-pub spreads_none : (n : ℕ) (xs : List ℕ) → length xs ≡ 81 → Spreads n xs xs 0
-spreads_none n xs l = record { long = l; kept = λ v lv. refl; second = below_none _ }
-
-pub spreads_more : {n : ℕ} {times xs : List ℕ} {k : ℕ} → n ≤ 40 → k < n → Spreads n times xs k → Spreads n times (set xs (n + k + 1) (at xs (k + 1))) (k + 1)
-spreads_more {n} {times} {xs} {k} few lt S = record {
-  long = simp length-set S.long;
-  kept = λ v l. get_or-set_other xs (n + k + 1) v (at xs (k + 1)) 0 (λ e. omega arith) ∙ S.kept v l;
-  second = below_more (λ i. at (set xs (n + k + 1) (at xs (k + 1))) (n + suc i) ≡ at times (suc i)) k
-      (λ i l. get_or-set_other xs (n + k + 1) (n + suc i) (at xs (k + 1)) 0 (λ e. omega arith) ∙ S.second i l)
-      (let p : n + suc k ≡ n + k + 1 = omega arith in
-      let q : k + 1 ≡ suc k = omega arith in
-      rw p (get_or-set_same xs (n + k + 1) (at xs (k + 1)) 0 (omega (arith, S.long))) ∙ S.kept (k + 1) (omega arith) ∙ ap (at times) q);
-}
-
-pub spreads_pairs : {n : ℕ} {times xs : List ℕ} → Nodes times → Spreads n times xs n → Pairs n (λ i. at times (suc i)) (λ i. at times (suc i)) xs n
-spreads_pairs N S = record {
-  nodes = record { long = S.long; origin = S.kept 0 (omega arith) ∙ N.origin };
-  first = λ i l. S.kept (suc i) (omega arith);
-  second = S.second;
-}
-
 -- windows in arrays, laid out as a potential
 pub pairs_potential : {n : ℕ} {pot : List ℕ} (opens closes : List ℕ) → Pairs n (at opens) (at closes) pot n → (v : ℕ) → v < 2 * n + 1
     → at pot v ≡ potential_of n (window_list n opens closes) v
@@ -187,21 +131,6 @@ pub record Read (n : ℕ) (pot opens closes opens' closes' : List ℕ) (k : ℕ)
   pub closes_within : Within k closes closes'
   pub opened : (i : ℕ) → i < k → at opens' i ≡ at pot (i + 1)
   pub closed : (i : ℕ) → i < k → at closes' i ≡ at pot (n + i + 1)
-
-within_more : {xs xs' : List ℕ} {k : ℕ} (x : ℕ) → Within k xs xs' → Within (k + 1) xs (set xs' k x)
-within_more {xs} {xs'} {k} x W = record { long = simp length-set W.long; past = λ i l. get_or-set_other xs' k i x 0 (λ q. omega arith) ∙ W.past i (omega arith) }
-
-pub read_none : (n : ℕ) (pot opens closes : List ℕ) → Read n pot opens closes opens closes 0
-read_none n pot opens closes = record { opens_within = within_same 0 opens; closes_within = within_same 0 closes; opened = below_none _; closed = below_none _ }
-
-pub read_more : {n : ℕ} {pot opens closes opens' closes' : List ℕ} {k : ℕ} → k < length opens → k < length closes → Read n pot opens closes opens' closes' k
-    → Read n pot opens closes (set opens' k (at pot (k + 1))) (set closes' k (at pot (n + k + 1))) (k + 1)
-read_more {n} {pot} {opens} {closes} {opens'} {closes'} {k} lo lc R = record {
-  opens_within = within_more (at pot (k + 1)) R.opens_within;
-  closes_within = within_more (at pot (n + k + 1)) R.closes_within;
-  opened = set_more (λ i x. x ≡ at pot (i + 1)) opens' k (at pot (k + 1)) (omega (arith, R.opens_within.long)) R.opened refl;
-  closed = set_more (λ i x. x ≡ at pot (n + i + 1)) closes' k (at pot (n + k + 1)) (omega (arith, R.closes_within.long)) R.closed refl;
-}
 
 pub read_windows_lem : {n : ℕ} {pot opens closes opens' closes' : List ℕ} → Read n pot opens closes opens' closes' n → window_list n opens' closes' ≡ windows_of n (at pot)
 unfolding window_list windows_of

@@ -14,12 +14,8 @@ pub fn lay(n: usize, opens: &[u32; 40], closes: &[u32; 40], pot: &mut [u32; 81])
     requires nodes { Nodes pot.old }
     ensures { Pairs n (at opens.now) (at closes.now) pot.new n }
 {
-    let mut i = 0;
-    while i < n {
-        pot[i + 1] = opens[i];
-        pot[n + i + 1] = closes[i];
-        i += 1;
-    }
+    pot[1..=n].copy_from_slice(&opens[..n]);
+    pot[n + 1..=2 * n].copy_from_slice(&closes[..n]);
 }
 
 // From the times of the points to the potential of windows that open and close at them.
@@ -28,11 +24,7 @@ pub fn spread(n: usize, pot: &mut [u32; 81])
     requires nodes { Nodes pot.old }
     ensures { Pairs n (λ (i : ℕ). at pot.old (suc i)) (λ (i : ℕ). at pot.old (suc i)) pot.new n }
 {
-    let mut i = 0;
-    while i < n {
-        pot[n + i + 1] = pot[i + 1];
-        i += 1;
-    }
+    pot.copy_within(1..=n, n + 1);
 }
 
 // The windows of a potential.
@@ -41,12 +33,8 @@ pub fn read_windows(n: usize, pot: &[u32; 81], opens: &mut [u32; 40], closes: &m
     requires opens_len { (length opens.old ≡ 40) × (length closes.old ≡ 40) }
     ensures { Read n pot.now opens.old closes.old opens.new closes.new n }
 {
-    let mut i = 0;
-    while i < n {
-        opens[i] = pot[i + 1];
-        closes[i] = pot[n + i + 1];
-        i += 1;
-    }
+    opens[..n].copy_from_slice(&pot[1..=n]);
+    closes[..n].copy_from_slice(&pot[n + 1..=2 * n]);
 }
 
 // Let the window of event i + 1 grow, unless it is committed.
@@ -69,9 +57,7 @@ pub fn limits(horizon: u32, n: usize, flags: &[u8; 40], low: &mut [u32; 81], hig
     ensures low_after { low.new ≡ loosened 0 0 flags.now n low.old }
     ensures high_after { high.new ≡ loosened n horizon flags.now n high.old }
 {
-    let mut i = 0;
-    while i < n {
+    for i in 0..n {
         free(low, high, flags[i], horizon, n, i);
-        i += 1;
     }
 }

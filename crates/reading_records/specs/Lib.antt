@@ -1,6 +1,4 @@
 -- What crate reading_records rests on. To believe the contract of `read_record` read Stored in crate ticket.
 -- Parts says what the functions on the way answer; the other modules are the laws that their proofs cite.
 pub mod Parts
-pub mod Answers
 pub mod Rest
-pub mod Whole

@@ -1,3 +1,3 @@
--- What crate reason rests on. To believe its contracts read `reasons`' Reasoning, and `returned` here; Steps has the laws.
+-- What crate reason rests on. To believe its contracts read `reasons`' Reasoning, `returned` and `told` here, and `ticket`'s Refusal; Steps has the laws.
 pub mod Returned
 pub mod Steps

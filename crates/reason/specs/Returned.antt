@@ -1,6 +1,17 @@
--- The part of an outcome that the code's answer holds.
+-- What a call answers, by its numbers: of an outcome, and of the code's answer.
+use Rattle.std.specs.Prelude.{ℕ, Result}
+use Rattle.std.specs.Result.{result_unwrap_or}
+use Rattle.ticket.specs.Refusal.{answer_number}
+use Rattle.ticket.specs.declared.Refusal.{Refusal}
 use Rattle.reasons.specs.Reasoning.{Outcome}
-use Rattle.reason.specs.declared.Answer.{Answer}
+
+-- the number of the refusal, 0 when the ring is printed; the length of its text, 0 when refused
+pub record Answer : Type 0 where
+  pub number : ℕ
+  pub length : ℕ
 
 abbrev pub returned : Outcome → Answer
 returned o = record { number = o.number; length = o.length }
+
+abbrev pub told : Result ℕ Refusal → Answer
+told a = record { number = answer_number a; length = result_unwrap_or a 0 }

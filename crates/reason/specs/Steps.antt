@@ -1,6 +1,6 @@
 -- What the code has answered and written at each of its returns. Rests on `reasons`' Reasoning, on `ring` for what the search answers, and on `ticket` for
 -- what reading answers.
-use Rattle.std.specs.Prelude.{ℕ, ◌-◌, ◌≤◌, ◌≡◌, true, List, ◌≢◌, T, take, replicate}
+use Rattle.std.specs.Prelude.{ℕ, ◌-◌, ◌≤◌, ◌≡◌, true, List, Some, None, Ok, Err, T, take, replicate}
 use Rattle.std.proofs.Common.{sym, subst, ◌∙◌, arith}
 use Rattle.std.proofs.Math.Path.{ap}
 use Rattle.std.proofs.Math.Dec.{not_T}
@@ -14,7 +14,10 @@ use Rattle.temporal.specs.Run.{Valid}
 use Rattle.ticket.specs.Writing.{content}
 use Rattle.ticket.specs.Stored.{pad, whole_ticket}
 use Rattle.ticket.proofs.Content.{read_refused, read_got, read_content}
-use Rattle.ticket.specs.declared.ReadTicket.{ReadTicket}
+use Rattle.ticket.specs.Refusal.{number_of}
+use Rattle.ticket.proofs.Refusals.{refusal_number}
+use Rattle.ticket.specs.declared.Ticket.{Ticket}
+use Rattle.ticket.specs.declared.Refusal.{Refusal}
 use Rattle.text.specs.Stores.{Puts}
 use Rattle.writing.specs.Stores.{sets_over}
 use Rattle.names.specs.Names.{well_formed}
@@ -22,14 +25,13 @@ use Rattle.paths.specs.Rules.{Number}
 use Rattle.paths.proofs.Walks.{valid_points}
 use Rattle.rings.specs.Ring.{ring}
 use Rattle.rings.proofs.Printed.{ring_printed}
-use Rattle.ring.specs.Answer.{printed, printed_rules, printed_most, printed_none}
+use Rattle.ring.specs.Answer.{printed, printed_is, printed_rules, printed_most, printed_none}
 use Rattle.ring.specs.declared.Found.{Found}
 use Rattle.reasons.specs.Text.{ring_text}
 use Rattle.reasons.proofs.Size.{text_size}
 use Rattle.reasons.specs.Reasoning.{Outcome, refusing, printing, explaining, after_reading, reasoning}
 use Rattle.reasons.proofs.Reasoning.{reasoning_read, explaining_possible, explaining_ring}
-use Rattle.reason.specs.Returned.{returned}
-use Rattle.reason.specs.declared.Answer.{Answer}
+use Rattle.reason.specs.Returned.{Answer, returned}
 
 -- a is what the outcome returns, and `out` its output
 abbrev pub Meets : Outcome → Answer → List ℕ → Type 0
@@ -40,36 +42,37 @@ meets_refused e q = (q ∙ ap returned (sym e), ap (λ (x : Outcome). x.out) (sy
 
 -- ---- a ticket that was read
 
-module _ (k : temporal.Ticket) (v : Valid k) (labels roster : List ℕ) (l : well_formed labels (events k) ≡ true) (r : well_formed roster 5 ≡ true) {f : Found} (e : f ≡ printed (ring k)) where
-  count_is : f.count ≡ (printed (ring k)).count
-  count_is = ap (λ (x : Found). x.count) e
-
-  pub found_most : f.count ≤ 41
-  found_most = omega (arith, count_is, printed_most k v)
-
-  pub found_long : length f.rules ≡ 41
-  unfolding pad
-  found_long =
-      ap (λ (x : Found). length x.rules) e
-      ∙ omega (arith, printed_most k v, length-append (ring k) (replicate (41 - length (ring k)) 0), length-replicate {A = ℕ} (41 - length (ring k)) 0)
-
+module _ (k : temporal.Ticket) (v : Valid k) (labels roster : List ℕ) (l : well_formed labels (events k) ≡ true) (r : well_formed roster 5 ≡ true) where
   -- no ring was found: a schedule exists
-  pub found_none : (out : List ℕ) → f.count ≡ 0 → explaining k labels roster out ≡ refusing 17 out
-  found_none out z = explaining_possible k labels roster out l r (T-true (consistent k) ((printed_none k v).0 (sym count_is ∙ z)))
+  pub found_none : (out : List ℕ) → None ≡ printed (ring k) → explaining k labels roster out ≡ refusing 17 out
+  found_none out z = explaining_possible k labels roster out l r (T-true (consistent k) ((printed_none k v).0 z))
 
-  module _ (some : f.count ≢ 0) where
+  module _ {f : Found} (e : Some f ≡ printed (ring k)) where
+    pub found_most : f.count ≤ 41
+    found_most = printed_most k v e
+
+    pub found_long : length f.rules ≡ 41
+    unfolding pad
+    found_long =
+        ap (λ (x : Found). length x.rules) (printed_is (ring k) e)
+        ∙ omega (arith, ring_most, length-append (ring k) (replicate (41 - length (ring k)) 0), length-replicate {A = ℕ} (41 - length (ring k)) 0)
+      where
+        ring_most : length (ring k) ≤ 41
+        ring_most = omega (arith, found_most, ap (λ (x : Found). x.count) (printed_is (ring k) e))
+
     no_schedule : ¬ T (consistent k)
-    no_schedule t = some (count_is ∙ (printed_none k v).1 t)
+    no_schedule t = let z : ◌≡◌ {A = ℕ} 0 1 = cc ((printed_none k v).1 t) in omega arith
 
     pub found_rules : take f.count f.rules ≡ ring k
-    found_rules = ap (λ (x : Found). take x.count x.rules) e ∙ printed_rules (ring k)
+    found_rules = printed_rules (ring k) e
 
     pub found_numbers : All (Number k) (take f.count f.rules)
     found_numbers = subst (All (Number k)) (sym found_rules) (ring_printed k (valid_points k v) no_schedule).a_ring.numbers
 
     -- its text is put into the output
     pub found_fits : length (ring_text k labels roster (take f.count f.rules)) ≤ 2200
-    found_fits = text_size k v labels roster l r (take f.count f.rules) found_numbers (omega (arith, ap length found_rules, count_is, found_most))
+    found_fits = text_size k v labels roster l r (take f.count f.rules) found_numbers
+        (omega (arith, ap length found_rules, ap (λ (x : Found). x.count) (printed_is (ring k) e), found_most))
 
     pub found_printed : {out out' : List ℕ} {n : ℕ} → 2200 ≤ length out → Puts (ring_text k labels roster (take f.count f.rules)) out out' 0 n
         → Meets (explaining k labels roster out) (record { number = 0; length = n }) out'
@@ -84,14 +87,15 @@ module _ (k : temporal.Ticket) (v : Valid k) (labels roster : List ℕ) (l : wel
 
 -- ---- reading
 
-module _ (ticket labels roster out : List ℕ) (room : 2200 ≤ length out) {x : ReadTicket} (e : x ≡ whole_ticket ticket) where
-  pub ticket_misread : {a : Answer} → x.number ≢ 0 → a ≡ record { number = x.number; length = 0 } → Meets (reasoning ticket labels roster out) a out
-  ticket_misread n q =
-      let c = read_refused ticket e n in
-      meets_refused (reasoning_read ticket labels roster out room ∙ ap (after_reading labels roster out) c.1) (q ∙ ap (λ (m : ℕ). record { number = m; length = 0 }) c.2)
+module _ (ticket labels roster out : List ℕ) (room : 2200 ≤ length out) where
+  pub ticket_misread : {a : Answer} {e : Refusal} → Err e ≡ whole_ticket ticket → a ≡ record { number = number_of e; length = 0 } → Meets (reasoning ticket labels roster out) a out
+  ticket_misread e q =
+      let c = read_refused ticket e in
+      meets_refused (reasoning_read ticket labels roster out room ∙ ap (after_reading labels roster out) c.1)
+      (q ∙ ap (λ (m : ℕ). record { number = m; length = 0 }) (ap number_of c.2 ∙ refusal_number c.0))
 
-  module _ (z : x.number ≡ 0) where
-    pub ticket_meets : {a : Answer} {out' : List ℕ} → Meets (explaining (content x.ticket) labels roster out) a out' → Meets (reasoning ticket labels roster out) a out'
-    ticket_meets {a} {out'} m =
-        subst (λ o. Meets o a out')
-        (ap (λ k. explaining k labels roster out) (read_content ticket e z) ∙ ap (after_reading labels roster out) (sym (read_got ticket e z).2) ∙ sym (reasoning_read ticket labels roster out room)) m
+  pub ticket_meets : {t : Ticket} → Ok t ≡ whole_ticket ticket → {a : Answer} {out' : List ℕ} → Meets (explaining (content t) labels roster out) a out'
+      → Meets (reasoning ticket labels roster out) a out'
+  ticket_meets e {a} {out'} m =
+      subst (λ o. Meets o a out')
+      (ap (λ k. explaining k labels roster out) (read_content ticket e) ∙ ap (after_reading labels roster out) (sym (read_got ticket e).2) ∙ sym (reasoning_read ticket labels roster out room)) m

@@ -8,64 +8,50 @@ ghost use Rattle.std.specs.Prelude.{◌≡◌, ◌≤◌, length};
 ghost use Rattle.temporal.specs.Run.{Valid};
 ghost use Rattle.ticket.specs.Writing.{content};
 ghost use Rattle.reasons.specs.Reasoning.{explaining, reasoning};
-ghost use Rattle.reason.specs.Returned.{returned};
+ghost use Rattle.reason.specs.Returned.{returned, told};
 
-use ticket::{DEVICES, Ticket};
+use ticket::{DEVICES, Refusal, Ticket};
 
 // An output holds the longest text.
 pub const TEXT_BYTES: usize = 2_200;
 
-// The number of the refusal, 0 when the ring is printed; the length of its text, 0 when refused.
-#[derive(Drop)]
-pub struct Answer {
-    pub number: u32,
-    pub length: u32,
-}
-
-fn refusal(number: u32) -> Answer
-    ensures { result ≡ record { number = number; length = 0 } }
-{
-    Answer { number, length: 0 }
-}
-
-// Explain a ticket that was read.
-fn explain<'a>(t: Ticket, labels: &'a [u8], roster: &'a [u8], out: &mut [u8]) -> Answer
+// Explain a ticket that was read. How long the text is.
+fn explain<'a>(
+    t: Ticket,
+    labels: &'a [u8],
+    roster: &'a [u8],
+    out: &mut [u8],
+) -> Result<u32, Refusal>
     requires { Valid (content t) × (2200 ≤ length out.old) }
-    ensures value { result ≡ returned (explaining (content t) labels.now roster.now out.old) }
+    ensures value { told result ≡ returned (explaining (content t) labels.now roster.now out.old) }
     ensures out_after { out.new ≡ (explaining (content t) labels.now roster.now out.old).out }
 {
-    let n = t.events;
-    if !names::well_formed(labels, n) {
-        return refusal(16);
+    if !names::well_formed(labels, t.events) {
+        return Err(Refusal::Names);
     }
     if !names::well_formed(roster, DEVICES) {
-        return refusal(16);
+        return Err(Refusal::Names);
     }
-    let found = ring::ring(t);
-    let count = found.count;
-    if count == 0 {
-        return refusal(17);
-    }
-    let rules = found.rules;
-    let length = ring_text::put_ring(out, t, &rules, count, labels, roster);
-    Answer {
-        number: 0,
-        length: length as u32,
-    }
+    let Some(found) = ring::ring(t) else {
+        return Err(Refusal::Possible);
+    };
+    let length = ring_text::put_ring(out, t, &found.rules, found.count, labels, roster);
+    Ok(length as u32)
 }
 
-// Explain the ticket that the bytes hold: the text of the ring goes into the output.
-pub fn reason<'a>(ticket: &'a [u8], labels: &'a [u8], roster: &'a [u8], out: &mut [u8]) -> Answer
-    ensures value { result ≡ returned (reasoning ticket.now labels.now roster.now out.old) }
+// Explain the ticket that the bytes hold: the text of the ring goes into the output. How long it is.
+pub fn reason<'a>(
+    ticket: &'a [u8],
+    labels: &'a [u8],
+    roster: &'a [u8],
+    out: &mut [u8],
+) -> Result<u32, Refusal>
+    ensures value { told result ≡ returned (reasoning ticket.now labels.now roster.now out.old) }
     ensures out_after { out.new ≡ (reasoning ticket.now labels.now roster.now out.old).out }
 {
     if out.len() < TEXT_BYTES {
-        return refusal(10);
+        return Err(Refusal::Room);
     }
-    let read = reading::read_ticket(ticket);
-    if read.number != 0 {
-        return refusal(read.number);
-    }
-    let t = read.ticket;
+    let t = reading::read_ticket(ticket)?;
     explain(t, labels, roster, out)
 }

@@ -1,5 +1,5 @@
 -- The first number from 1 on that something holds of, as a loop finds it, and as several loops do one after the other. Rests on rings' First.
-use Rattle.std.specs.Prelude.{◌≡◌, Bool, ◌⊎◌, ℕ, suc, ◌+◌, ◌≤◌, ◌<◌, T}
+use Rattle.std.specs.Prelude.{◌≡◌, Bool, ◌⊎◌, ℕ, suc, ◌≤◌, ◌<◌, T}
 use Rattle.std.proofs.Common.{subst, ⊎_elim, arith}
 use Rattle.temporal.proofs.Lists.{below_or_not}
 use Rattle.rings.specs.Order.{First}
@@ -17,26 +17,6 @@ pub record FirstOr (P : ℕ → Type 0) (b e : ℕ) : Type 0 where
 pub record Passed (P : ℕ → Type 0) (e : ℕ) : Type 0 where
   pub low : 1 ≤ e
   pub none : (x : ℕ) → 1 ≤ x → x < e → ¬ P x
-
-pub passed_none : {P : ℕ → Type 0} → Passed P 1
-passed_none = record { low = omega arith; none = λ x a l p. omega arith }
-
-pub passed_more : {P : ℕ → Type 0} {e : ℕ} → Passed P e → ¬ P e → Passed P (e + 1)
-passed_more {P} {e} h n = record {
-  low = omega arith;
-  none = λ x a l p.
-      ⊎_elim (λ (s : x < e). h.none x a s p)
-      (λ (s : e ≤ x).
-      let q : x ≡ e = omega arith in
-      n (subst P q p))
-      (below_or_not x e);
-}
-
-pub first_or_here : {P : ℕ → Type 0} {b e : ℕ} → Passed P e → e < b → P e → FirstOr P b e
-first_or_here h l p = record { low = h.low; high = omega arith; none = h.none; here = λ s. p }
-
-pub first_or_end : {P : ℕ → Type 0} {b e : ℕ} → Passed P e → e ≤ b → b ≤ e → FirstOr P b e
-first_or_end h l s = record { low = h.low; high = l; none = h.none; here = λ x. absurd (omega arith) }
 
 -- ---- several loops, each below what the one before it found
 

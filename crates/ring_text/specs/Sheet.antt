@@ -20,6 +20,7 @@ use Rattle.paths.proofs.Walks.{rule_points, valid_points}
 use Rattle.paths.proofs.Structs.{written_in, back_in, out_in}
 use Rattle.reasons.specs.Text.{at_line, point_line, rule_line, ring_text}
 use Rattle.reasons.proofs.Size.{bound_small}
+use Rattle.ring_text.specs.declared.Sheet as declared
 
 -- ---- the definitions
 
@@ -32,13 +33,14 @@ pub record Sheet : Type 0 where
   pub labels : List ℕ
   pub roster : List ℕ
 
--- by its parts, and that of a struct
-abbrev pub sheet : (horizon rules : ℕ) (owners from : List ℕ) (bound : List ℤ) (labels roster : List ℕ) → Sheet
-sheet horizon rules owners from bound labels roster =
-    record { horizon = horizon; rules = rules; owners = owners; from = from; bound = bound; labels = labels; roster = roster }
-
+-- that of a ticket's struct and two lists of names
 abbrev pub sheet_in : Ticket → List ℕ → List ℕ → Sheet
-sheet_in t labels roster = sheet t.horizon t.rules t.owners t.from t.bound labels roster
+sheet_in t labels roster =
+    record { horizon = t.horizon; rules = t.rules; owners = t.owners; from = t.from; bound = t.bound; labels = labels; roster = roster }
+
+-- and that of what the writers are lent
+abbrev pub lent : declared.Sheet → Sheet
+lent s = sheet_in s.ticket.now s.labels.now s.roster.now
 
 -- the point that rule x goes from, of m written rules
 unfoldable pub from_at : ℕ → List ℕ → ℕ → ℕ

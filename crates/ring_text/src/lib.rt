@@ -12,52 +12,22 @@ ghost use Rattle.text.specs.Stores.{Puts};
 ghost use Rattle.names.specs.Names.{well_formed};
 ghost use Rattle.paths.specs.Rules.{Number};
 ghost use Rattle.reasons.specs.Text.{signed_decimal, at_line, point_line, rule_line, ring_text};
-ghost use Rattle.ring_text.specs.Sheet.{sheet, from_at, bound_at, point_text, Writable};
-ghost use Rattle.ring_text.specs.Lines.{Pointed, ring_from, rest_text};
+ghost use Rattle.ring_text.specs.Sheet.{lent, from_in, bound_in, rule_text, point_text, Writable};
+ghost use Rattle.ring_text.specs.Lines.{Pointed};
 
 use ticket::Ticket;
-
-// The point that rule x goes from, of m written rules.
-fn from_of(m: usize, from: &[u8; 256], x: u32) -> usize
-    requires { (1 ≤ x) × (m ≤ 256) }
-    ensures { result ≡ from_at m from.now x }
-{
-    let k = x as usize;
-    if k <= m {
-        return ticket::wide(from[k - 1]);
-    }
-    if (k - m) % 2 == 1 {
-        return (k - m + 1) / 2;
-    }
-    0
-}
-
-// The bound of rule x.
-fn bound_of(m: usize, horizon: u32, bound: &[i32; 256], x: u32) -> i32
-    requires { (1 ≤ x) × (m ≤ 256) × (horizon ≤ 1000000) }
-    ensures { result ≡ bound_at m horizon bound.now x }
-{
-    let k = x as usize;
-    if k <= m {
-        return bound[k - 1];
-    }
-    if (k - m) % 2 == 1 {
-        return 0;
-    }
-    horizon as i32
-}
 
 // c with its sign, and the byte that ends its line.
 fn put_signed(out: &mut [u8], at: usize, c: i32) -> usize
     requires { at + 12 ≤ length out.old }
     ensures { Puts (signed_decimal c ++ 10 ∷ []) out.old out.new at result }
 {
-    if 0 <= c {
-        return text::put_part(out, at, c as u32, b'\n');
-    }
-    let k = -1 - c;
-    let next = text::put_byte(out, at, b'-');
-    text::put_part(out, next, k as u32 + 1, b'\n')
+    let next = if c < 0 {
+        text::put_byte(out, at, b'-')
+    } else {
+        at
+    };
+    text::put_part(out, next, c.unsigned_abs(), b'\n')
 }
 
 // The line of an event with these names.
@@ -72,29 +42,6 @@ fn put_event<'a>(out: &mut [u8], at: usize, label: &'a [u8], device: &'a [u8]) -
     text::put_byte(out, d, b'\n')
 }
 
-// The line of point p.
-fn put_point<'a>(
-    out: &mut [u8],
-    at: usize,
-    p: usize,
-    owners: &'a [u8; 40],
-    labels: &'a [u8],
-    roster: &'a [u8],
-) -> usize
-    requires { (at + 37 ≤ length out.old) × Pointed owners.now labels.now roster.now p }
-    ensures { Puts (point_line owners.now labels.now roster.now p)
-        out.old out.new at result }
-{
-    if p == 0 {
-        return text::put_word(out, at, b"at start\n");
-    }
-    let i = p - 1;
-    let owner = ticket::wide(owners[i]);
-    let label = names::name(labels, roster, false, i);
-    let device = names::name(labels, roster, true, owner);
-    put_event(out, at, label, device)
-}
-
 // The line of rule x, with bound c.
 fn put_rule(out: &mut [u8], at: usize, x: u32, c: i32) -> usize
     requires { at + 27 ≤ length out.old }
@@ -105,77 +52,86 @@ fn put_rule(out: &mut [u8], at: usize, x: u32, c: i32) -> usize
     put_signed(out, b, c)
 }
 
-// The `left` rules from place i of the ring on, from a point line on.
-#[cycle(point_line_rule_line)]
-fn point_line<'a>(
-    out: &mut [u8],
-    at: usize,
-    ring: &'a [u32; 41],
-    i: usize,
-    left: usize,
-    horizon: u32,
-    m: usize,
-    owners: &'a [u8; 40],
-    from: &'a [u8; 256],
-    bound: &'a [i32; 256],
+// What the text of a ring is written from: the ticket, and the names of its events and of the devices.
+#[derive(Clone, Copy)]
+struct Sheet<'a> {
+    ticket: &'a Ticket,
     labels: &'a [u8],
     roster: &'a [u8],
-) -> usize
-    requires left_bound { (i + left ≤ 41) × (at + 53 * left + 11 ≤ length out.old) }
-    requires writable { Writable (sheet horizon m owners.now from.now bound.now labels.now roster.now)
-        (ring_from ring.now i left) }
-    ensures { Puts (point_text (sheet horizon m owners.now from.now bound.now
-        labels.now roster.now) (ring_from ring.now i left)) out.old out.new at result }
-{
-    if left == 0 {
-        return at;
-    }
-    let p = from_of(m, from, ring[i]);
-    let next = put_point(out, at, p, owners, labels, roster);
-    rule_line(
-        out, next, ring, i, left, horizon, m, owners, from, bound, labels, roster,
-    )
 }
 
-// The same from a rule line on.
-#[cycle(point_line_rule_line)]
-fn rule_line<'a>(
-    out: &mut [u8],
-    at: usize,
-    ring: &'a [u32; 41],
-    i: usize,
-    left: usize,
-    horizon: u32,
-    m: usize,
-    owners: &'a [u8; 40],
-    from: &'a [u8; 256],
-    bound: &'a [i32; 256],
-    labels: &'a [u8],
-    roster: &'a [u8],
-) -> usize
-    requires le_left { (1 ≤ left) × (i + left ≤ 41) × (at + 53 * left ≤ length out.old + 26) }
-    requires writable { Writable (sheet horizon m owners.now from.now bound.now labels.now roster.now)
-        (ring_from ring.now i left) }
-    ensures { Puts (rest_text (sheet horizon m owners.now from.now bound.now
-        labels.now roster.now) ring.now i left) out.old out.new at result }
-{
-    let x = ring[i];
-    let c = bound_of(m, horizon, bound, x);
-    let next = put_rule(out, at, x, c);
-    point_line(
-        out,
-        next,
-        ring,
-        i + 1,
-        left - 1,
-        horizon,
-        m,
-        owners,
-        from,
-        bound,
-        labels,
-        roster,
-    )
+impl<'a> Sheet<'a> {
+    // The point that rule x goes from.
+    fn from_of(&self, x: u32) -> usize
+        requires { (1 ≤ x) × (self.now.ticket.now.rules ≤ 256) }
+        ensures { result ≡ from_in (lent self.now) x }
+    {
+        let k = x as usize;
+        let m = self.ticket.rules;
+        if k <= m {
+            return usize::from(self.ticket.from[k - 1]);
+        }
+        if (k - m) % 2 == 1 {
+            return (k - m + 1) / 2;
+        }
+        0
+    }
+
+    // The bound of rule x.
+    fn bound_of(&self, x: u32) -> i32
+        requires { (1 ≤ x) × (self.now.ticket.now.rules ≤ 256) × (self.now.ticket.now.horizon ≤ 1000000) }
+        ensures { result ≡ bound_in (lent self.now) x }
+    {
+        let k = x as usize;
+        let m = self.ticket.rules;
+        if k <= m {
+            return self.ticket.bound[k - 1];
+        }
+        if (k - m) % 2 == 1 {
+            return 0;
+        }
+        self.ticket.horizon as i32
+    }
+
+    // The line of point p.
+    fn put_point(&self, out: &mut [u8], at: usize, p: usize) -> usize
+        requires { (at + 37 ≤ length out.old) × Pointed (lent self.now) p }
+        ensures { Puts (point_line self.now.ticket.now.owners self.now.labels.now self.now.roster.now p) out.old out.new at result }
+    {
+        if p == 0 {
+            return text::put_word(out, at, b"at start\n");
+        }
+        let i = p - 1;
+        let owner = usize::from(self.ticket.owners[i]);
+        let label = names::name(self.labels, self.roster, false, i);
+        let device = names::name(self.labels, self.roster, true, owner);
+        put_event(out, at, label, device)
+    }
+
+    // The lines of the rules that are left in a ring, from a point line on.
+    #[cycle(point_line_rule_line)]
+    fn point_line(&self, out: &mut [u8], at: usize, ring: &[u32]) -> usize
+        requires room { at + 53 * length ring.now + 11 ≤ length out.old }
+        requires writable { Writable (lent self.now) ring.now }
+        ensures { Puts (point_text (lent self.now) ring.now) out.old out.new at result }
+    {
+        let Some((&x, rest)) = ring.split_first() else {
+            return at;
+        };
+        let next = self.put_point(out, at, self.from_of(x));
+        self.rule_line(out, next, x, rest)
+    }
+
+    // The same from the line of rule x on.
+    #[cycle(point_line_rule_line)]
+    fn rule_line(&self, out: &mut [u8], at: usize, x: u32, rest: &[u32]) -> usize
+        requires room { at + 53 * length rest.now + 27 ≤ length out.old }
+        requires writable { Writable (lent self.now) (x ∷ rest.now) }
+        ensures { Puts (rule_text (lent self.now) x (point_text (lent self.now) rest.now)) out.old out.new at result }
+    {
+        let next = put_rule(out, at, x, self.bound_of(x));
+        self.point_line(out, next, rest)
+    }
 }
 
 // The text of the ring of `count` rules of a valid ticket.
@@ -194,12 +150,10 @@ pub fn put_ring<'a>(
     ensures { Puts (ring_text (content t) labels.now roster.now (take count ring.now))
         out.old out.new 0 result }
 {
-    let horizon = t.horizon;
-    let m = t.rules;
-    let owners = t.owners;
-    let from = t.from;
-    let bound = t.bound;
-    point_line(
-        out, 0, ring, 0, count, horizon, m, &owners, &from, &bound, labels, roster,
-    )
+    let sheet = Sheet {
+        ticket: &t,
+        labels,
+        roster,
+    };
+    sheet.point_line(out, 0, &ring[..count])
 }

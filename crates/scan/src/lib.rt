@@ -9,101 +9,57 @@ ghost use Rattle.network.specs.Index.{Index, Listed};
 ghost use Rattle.visit.specs.Visit.{Scans};
 ghost use Rattle.scan.specs.Sweep.{Swept, EdgesBelow, Scanned};
 
+use visit::Trail;
+
 // Visit the box edges of every node: the origin is scanned.
-fn scan_origin(
-    net: &[u32],
-    m: usize,
-    nodes: usize,
-    pot: &[u32; 81],
-    stamp: &mut [usize; 81],
-    via: &mut [usize; 81],
-    dist: &mut [u32; 81],
-    order: &mut [usize; 81],
-    key: &mut [u32; 81],
-    root: usize,
-    t: usize,
-    s: usize,
-    d: u32,
-) -> usize
-    requires search { Search net.now m nodes pot.now stamp.old via.old dist.old order.old key.old root t s d }
-    requires scans { Scans nodes stamp.old s 0 }
-    ensures { Swept net.now m nodes pot.now stamp.old dist.old order.old t
-        stamp.new via.new dist.new order.new key.new root result s d 0 (EdgesBelow (2 * nodes - 2)) }
+fn scan_origin(net: &[u32], m: usize, nodes: usize, pot: &[u32; 81], trail: &mut Trail)
+    requires search { Search net.now m nodes pot.now trail.old }
+    requires scans { Scans nodes trail.old 0 }
+    ensures { Swept net.now m nodes pot.now trail.old trail.new 0 (EdgesBelow (2 * nodes - 2)) }
 {
-    let mut r = t;
-    let mut v = 1;
-    while v < nodes {
+    for v in 1..nodes {
         let o = 2 * v - 1;
-        r = visit::visit_box(net, pot, stamp, via, dist, order, key, 0, v, o - 1, o, d, r);
-        v += 1;
+        trail.visit_box(net, pot, 0, v, o - 1, o);
     }
-    r
 }
 
 // Visit the box edges at w.
-fn scan_box(
-    net: &[u32],
-    m: usize,
-    nodes: usize,
-    pot: &[u32; 81],
-    stamp: &mut [usize; 81],
-    via: &mut [usize; 81],
-    dist: &mut [u32; 81],
-    order: &mut [usize; 81],
-    key: &mut [u32; 81],
-    root: usize,
-    t: usize,
-    s: usize,
-    d: u32,
-    w: usize,
-) -> usize
-    requires search { Search net.now m nodes pot.now stamp.old via.old dist.old order.old key.old root t s d }
-    requires scans { Scans nodes stamp.old s w }
-    ensures { Swept net.now m nodes pot.now stamp.old dist.old order.old t
-        stamp.new via.new dist.new order.new key.new root result s d w (EdgesBelow (2 * nodes - 2)) }
+fn scan_box(net: &[u32], m: usize, nodes: usize, pot: &[u32; 81], trail: &mut Trail, w: usize)
+    requires search { Search net.now m nodes pot.now trail.old }
+    requires scans { Scans nodes trail.old w }
+    ensures { Swept net.now m nodes pot.now trail.old trail.new w (EdgesBelow (2 * nodes - 2)) }
 {
     if w == 0 {
-        return scan_origin(
-            net, m, nodes, pot, stamp, via, dist, order, key, root, t, s, d,
-        );
+        scan_origin(net, m, nodes, pot, trail);
+    } else {
+        let i = 2 * w - 1;
+        trail.visit_box(net, pot, w, 0, i, i - 1);
     }
-    let i = 2 * w - 1;
-    visit::visit_box(net, pot, stamp, via, dist, order, key, w, 0, i, i - 1, d, t)
 }
 
-// Visit the edges whose head is w, but for box edges.
+// Visit the edges whose head is w, but for box edges. This walk of a list and the next are two: one walk for both would take the visit as a closure
+// with a contract of its own, which is longer than the loop.
 fn scan_heads(
     net: &[u32],
     m: usize,
     nodes: usize,
     heads: &[u32],
     pot: &[u32; 81],
-    stamp: &mut [usize; 81],
-    via: &mut [usize; 81],
-    dist: &mut [u32; 81],
-    order: &mut [usize; 81],
-    key: &mut [u32; 81],
-    root: usize,
-    t: usize,
-    s: usize,
-    d: u32,
+    trail: &mut Trail,
     w: usize,
-) -> usize
-    requires search { Search net.now m nodes pot.now stamp.old via.old dist.old order.old key.old root t s d }
-    requires scans { Scans nodes stamp.old s w }
+)
+    requires search { Search net.now m nodes pot.now trail.old }
+    requires scans { Scans nodes trail.old w }
     requires index { Index net.now m (2 * nodes - 2) 1 heads.now }
-    ensures { Swept net.now m nodes pot.now stamp.old dist.old order.old t
-        stamp.new via.new dist.new order.new key.new root result s d w (Listed net.now (2 * nodes - 2) 1 w) }
+    ensures { Swept net.now m nodes pot.now trail.old trail.new w (Listed net.now (2 * nodes - 2) 1 w) }
 {
     let base = 2 * nodes - 2;
-    let mut r = t;
     let mut x = heads[w] as usize;
     while 0 < x {
         let e = x - 1;
-        r = visit::visit_head(net, pot, stamp, via, dist, order, key, w, e, d, r);
+        trail.visit_head(net, pot, w, e);
         x = heads[81 + (e - base)] as usize;
     }
-    r
 }
 
 // Visit the edges whose tail is w, but for box edges.
@@ -113,32 +69,21 @@ fn scan_tails(
     nodes: usize,
     tails: &[u32],
     pot: &[u32; 81],
-    stamp: &mut [usize; 81],
-    via: &mut [usize; 81],
-    dist: &mut [u32; 81],
-    order: &mut [usize; 81],
-    key: &mut [u32; 81],
-    root: usize,
-    t: usize,
-    s: usize,
-    d: u32,
+    trail: &mut Trail,
     w: usize,
-) -> usize
-    requires search { Search net.now m nodes pot.now stamp.old via.old dist.old order.old key.old root t s d }
-    requires scans { Scans nodes stamp.old s w }
+)
+    requires search { Search net.now m nodes pot.now trail.old }
+    requires scans { Scans nodes trail.old w }
     requires index { Index net.now m (2 * nodes - 2) 0 tails.now }
-    ensures { Swept net.now m nodes pot.now stamp.old dist.old order.old t
-        stamp.new via.new dist.new order.new key.new root result s d w (Listed net.now (2 * nodes - 2) 0 w) }
+    ensures { Swept net.now m nodes pot.now trail.old trail.new w (Listed net.now (2 * nodes - 2) 0 w) }
 {
     let base = 2 * nodes - 2;
-    let mut r = t;
     let mut x = tails[w] as usize;
     while 0 < x {
         let e = x - 1;
-        r = visit::visit_tail(net, stamp, via, dist, order, key, e, d, r);
+        trail.visit_tail(net, e);
         x = tails[81 + (e - base)] as usize;
     }
-    r
 }
 
 // Scan the next node that waits: visit all edges at it.
@@ -149,31 +94,17 @@ pub fn scan(
     tails: &[u32],
     heads: &[u32],
     pot: &[u32; 81],
-    stamp: &mut [usize; 81],
-    via: &mut [usize; 81],
-    dist: &mut [u32; 81],
-    order: &mut [usize; 81],
-    key: &mut [u32; 81],
-    root: usize,
-    t: usize,
-    s: usize,
-    d: u32,
-) -> usize
-    requires search { Search net.now m nodes pot.now stamp.old via.old dist.old order.old key.old root t s d }
-    requires s_lt_t { s < t }
+    trail: &mut Trail,
+)
+    requires search { Search net.now m nodes pot.now trail.old }
+    requires waits { trail.old.scanned < trail.old.reached }
     requires index { Index net.now m (2 * nodes - 2) 0 tails.now }
     requires index_2 { Index net.now m (2 * nodes - 2) 1 heads.now }
-    ensures { Scanned net.now m nodes pot.now order.old t
-        stamp.new via.new dist.new order.new key.new root result s d }
+    ensures { Scanned net.now m nodes pot.now trail.old trail.new }
 {
-    let w = order[s];
-    let a = scan_box(
-        net, m, nodes, pot, stamp, via, dist, order, key, root, t, s, d, w,
-    );
-    let b = scan_heads(
-        net, m, nodes, heads, pot, stamp, via, dist, order, key, root, a, s, d, w,
-    );
-    scan_tails(
-        net, m, nodes, tails, pot, stamp, via, dist, order, key, root, b, s, d, w,
-    )
+    let w = trail.order[trail.scanned];
+    scan_box(net, m, nodes, pot, trail, w);
+    scan_heads(net, m, nodes, heads, pot, trail, w);
+    scan_tails(net, m, nodes, tails, pot, trail, w);
+    trail.scanned += 1;
 }

@@ -1,15 +1,10 @@
 -- What is lent to a call, and what it must hold afterwards.
-use Rattle.std.specs.Prelude.{◌≡◌, ℕ, ◌+◌, ◌<◌, min, Bool, true, false, cond, List, ◌++◌, length, take, drop, replicate, ◌==◌, nat_lt, slice_index, slice_set}
-use Rattle.std.proofs.Math.Seq.{paste-suc}
-use Rattle.std.proofs.Common.{arith, zero-add, add-one}
+use Rattle.std.specs.Prelude.{◌≡◌, ℕ, ◌<◌, min, Bool, true, cond, List, ◌++◌, length, take, drop, replicate, ◌==◌, nat_lt, slice_index}
 
 -- the answer is true where P holds, and only there
 pub record Decides (answer : Bool) (P : Type 0) : Type 0 where
   pub sound : answer ≡ true → P
   pub whole : P → answer ≡ true
-
-pub decides_not : {P : Type 0} → (P → ⊥) → Decides false P
-decides_not no-P = record { sound = λ q. let z : ◌≡◌ {A = ℕ} 0 1 = cc in absurd (omega arith); whole = λ p. absurd (no-P p) }
 
 -- an output as it is lent: 2,048 bytes, all 7
 unfoldable pub untouched : List ℕ
@@ -22,10 +17,6 @@ front n bytes out = take n bytes ++ drop n out
 -- an output with the bytes at its start, as far as there is room
 unfoldable pub holding : List ℕ → List ℕ → List ℕ
 holding bytes out = front (min (length bytes) (length out)) bytes out
-
--- one byte more is copied
-pub front_more : (bytes out : List ℕ) (n : ℕ) → n < length bytes → n < length out → slice_set (front n bytes out) n (slice_index bytes n) ≡ front (n + 1) bytes out
-front_more bytes out n l k = rw add-one (simp zero-add at (paste-suc out 0 bytes n 0 (omega arith) l))
 
 -- 01 "Network, table, plan": after every answer but 10 the first 2,400 scratch numbers are 0, the rest untouched; scratch is lent with 7 everywhere
 unfoldable pub left_at : ℕ → ℕ → ℕ

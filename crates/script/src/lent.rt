@@ -27,10 +27,7 @@ pub fn scratch() -> [u32; 8200]
 pub fn part(s: &[u8], n: usize) -> &[u8]
     ensures { result.now ≡ take n s.now }
 {
-    if n <= s.len() {
-        return &s[..n];
-    }
-    s
+    &s[..n.min(s.len())]
 }
 
 // Whether an output holds the bytes, and after them what it held before.
@@ -56,12 +53,8 @@ fn cleared(number: u32, i: usize) -> u32
 pub fn is_cleared(number: u32, scratch: &[u32]) -> bool
     ensures { Decides result (Cleared number scratch.now) }
 {
-    let mut i = 0;
-    while i < scratch.len() {
-        if scratch[i] != cleared(number, i) {
-            return false;
-        }
-        i += 1;
-    }
-    true
+    scratch
+        .iter()
+        .enumerate()
+        .all(|(i, x)| *x == cleared(number, i))
 }

@@ -13,23 +13,18 @@ ghost use Rattle.script.specs.Lent.{holding};
 
 // A byte, 0 past the end.
 pub fn byte(s: &[u8], at: usize) -> u8 {
-    if at < s.len() {
-        return s[at];
-    }
-    0
+    s.get(at).copied().unwrap_or(0)
 }
 
+// The number of the two bytes at a place, and of the four.
 pub fn two(s: &[u8], at: usize) -> u32
-    requires { at < 60000 }
     ensures { result < 65536 }
 {
-    byte(s, at) as u32 + 256 * byte(s, at + 1) as u32
+    u32::from(u16::from_le_bytes([byte(s, at), byte(s, at.saturating_add(1))]))
 }
 
-pub fn four(s: &[u8], at: usize) -> u32
-    requires { at < 50000 }
-{
-    two(s, at) + 65536 * two(s, at + 2)
+pub fn four(s: &[u8], at: usize) -> u32 {
+    two(s, at) + 65536 * two(s, at.saturating_add(2))
 }
 
 // ---- words
@@ -39,33 +34,23 @@ pub fn after(s: &[u8], at: usize, b: u8) -> usize
     requires { at ≤ length s.now }
     ensures { (min (at + 1) (length s.now) ≤ result) × (result ≤ length s.now) }
 {
-    let mut i = at;
-    while i < s.len() {
-        if s[i] == b {
-            return i + 1;
-        }
-        i += 1;
+    match s[at..].iter().position(|x| *x == b) {
+        Some(k) => at + k + 1,
+        None => s.len(),
     }
-    i
 }
 
 // The decimal x with the digit b at its end.
 fn digit(x: u64, b: u8) -> u64 {
     match b {
-        b'0'..=b'9' => 10 * (x % 1_000_000_000) + (b - b'0') as u64,
+        b'0'..=b'9' => 10 * (x % 1_000_000_000) + u64::from(b - b'0'),
         _ => x,
     }
 }
 
 // The decimal of the digits of a word.
 fn decimal(word: &[u8]) -> u64 {
-    let mut x = 0;
-    let mut i = 0;
-    while i < word.len() {
-        x = digit(x, word[i]);
-        i += 1;
-    }
-    x
+    word.iter().fold(0, |x, b| digit(x, *b))
 }
 
 // The number of a word, which ends at its colon; a negative one plus 2^64.
@@ -73,7 +58,7 @@ fn value(word: &[u8]) -> u64 {
     let colon = after(word, 0, b':');
     let x = decimal(&word[..colon]);
     if byte(word, 0) == b'-' {
-        return std::num::wrapping_sub_u64(0, x);
+        return x.wrapping_neg();
     }
     x
 }
@@ -89,23 +74,13 @@ fn width(word: &[u8], usual: usize) -> usize {
 
 // ---- bytes
 
-pub fn least(a: usize, b: usize) -> usize
-    ensures { result ≡ min a b }
-{
-    if a < b { a } else { b }
-}
-
 // The bytes at the start of the output, as far as there is room; how many.
 pub fn copy(from: &[u8], out: &mut [u8]) -> usize
     ensures value { result ≡ min (length from.now) (length out.old) }
     ensures out_after { out.new ≡ holding from.now out.old }
 {
-    let n = least(from.len(), out.len());
-    let mut i = 0;
-    while i < n {
-        out[i] = from[i];
-        i += 1;
-    }
+    let n = from.len().min(out.len());
+    out[..n].copy_from_slice(&from[..n]);
     n
 }
 
@@ -119,11 +94,9 @@ fn put(x: u64, width: usize, at: usize, out: &mut [u8]) -> usize
     }
     let end = at + width;
     let mut rest = x;
-    let mut i = at;
-    while i < end {
-        out[i] = (rest % 256) as u8;
+    for b in &mut out[at..end] {
+        *b = (rest % 256) as u8;
         rest /= 256;
-        i += 1;
     }
     end
 }
@@ -136,7 +109,7 @@ fn word_bytes(word: &[u8], usual: usize, at: usize, kept: &[u8], out: &mut [u8])
     let x = value(word);
     match byte(word, 0) {
         b'*' => copy(kept, out),
-        b'@' => least(x as usize, out.len()),
+        b'@' => (x as usize).min(out.len()),
         _ => put(x, width(word, usual), at, out),
     }
 }

@@ -9,14 +9,8 @@ pub fn number(rt: &impl Print, x: u32) -> io::Result<()> {
     length(rt, x as usize)
 }
 
-// The number whose two's complement bits are x.
-pub fn signed(rt: &impl Print, x: u32) -> io::Result<()> {
-    if x < 2_147_483_648 {
-        number(rt, x)
-    } else {
-        let least = 4_294_967_296 - x as u64;
-        print!(rt; " -{least}")
-    }
+pub fn signed(rt: &impl Print, x: i32) -> io::Result<()> {
+    print!(rt; " {x}")
 }
 
 // The end of a line; memory that is not as it must be is said.

@@ -1,11 +1,12 @@
 -- The node that is reached next: of those that are not, one at the least distance. It is found by the keys, and is at 2000000 at most.
-use Rattle.std.specs.Prelude.{ℕ, ◌+◌, ◌*◌, ◌-◌, ◌≤◌, ◌<◌, min, ◌≡◌, refl, List, set}
-use Rattle.std.proofs.Common.{ap, ◌∙◌, ⊎_elim, arith, eq-or-lt_of_le, below_more}
+use Rattle.std.specs.Prelude.{ℕ, ◌+◌, ◌*◌, ◌-◌, ◌≤◌, ◌<◌, min, ◌≡◌, refl, List}
+use Rattle.std.proofs.Common.{ap, arith, below_more}
 use Rattle.std.proofs.Math.Logic.{by_cases}
 use Rattle.std.proofs.Math.Decide.{dec_lt}
 use Rattle.network.specs.Lists.{by_zero, zeros_some}
 use Rattle.network.specs.Stored.{at, Network, Potential, pot_bound}
-use Rattle.visit.specs.Search.{Search, search_join, search_farther}
+use Rattle.visit.specs.declared.Trail.{Trail}
+use Rattle.visit.specs.Search.{Search, joined, search_join, search_farther}
 
 -- x is the least of the first n keys
 pub record LeastKey (key : List ℕ) (n x : ℕ) : Type 0 where
@@ -29,41 +30,18 @@ pub record Nearest (key : List ℕ) (w : ℕ) : Type 0 where
   pub inside : w < 81
   pub least : (v : ℕ) → v < 81 → at key w ≤ at key v
 
--- a node from w on has the least key x
-pub record Seek (key : List ℕ) (x w : ℕ) : Type 0 where
-  pub least : (v : ℕ) → v < 81 → x ≤ at key v
-  pub held : (v : ℕ) × (w ≤ v) × (v < 81) × (at key v ≡ x)
-
-pub seek_none : {key : List ℕ} {x : ℕ} → LeastKey key 81 x → Seek key x 0
-seek_none h = record { least = h.least; held = (h.held.0, omega arith, h.held.1, h.held.2) }
-
-module _ {key : List ℕ} {x w : ℕ} (h : Seek key x w) where
-  pub seek_inside : w < 81
-  seek_inside = omega (arith, h.held.1, h.held.2)
-
-  pub seek_more : (at key w ≡ x → ⊥) → Seek key x (w + 1)
-  seek_more ne =
-      let o = h.held in
-      record {
-        least = h.least;
-        held = (o.0, ⊎_elim (λ (q : w ≡ o.0). absurd (ne (ap (at key) q ∙ o.3))) (λ (l : w < o.0). omega arith) (eq-or-lt_of_le o.1), o.2, o.3);
-      }
-
-  pub seek_done : at key w ≡ x → Nearest key w
-  seek_done q = record { inside = seek_inside; least = λ v l. omega (arith, h.least v l) }
-
 -- no key is below the distance that the search came to
-pub keys_from : {net : List ℕ} {m nodes : ℕ} {pot stamp via dist order key : List ℕ} {root t s d : ℕ} → Search net m nodes pot stamp via dist order key root t s d
-    → (v : ℕ) → v < 81 → d ≤ at key v
-keys_from {nodes = nodes} {stamp = stamp} S v l =
+pub keys_from : {net : List ℕ} {m nodes : ℕ} {pot : List ℕ} {trail : Trail} → Search net m nodes pot trail
+    → (v : ℕ) → v < 81 → trail.distance ≤ at trail.key v
+keys_from {nodes = nodes} {trail = trail} S v l =
     by_cases (dec_lt v nodes)
-    (λ lv. by_zero (at stamp v)
+    (λ lv. by_zero (at trail.stamp v)
     (λ z. omega (arith, S.far v lv z, (S.keyed.keys v lv).out z))
     (λ p. omega (arith, S.bound, (S.keyed.keys v lv).reached p)))
     (λ n. omega (arith, S.bound, S.keyed.rest v (omega arith) l))
 
-module _ {net : List ℕ} {m nodes : ℕ} {pot stamp via dist order key : List ℕ} {root t s d : ℕ}
-    (S : Search net m nodes pot stamp via dist order key root t s d) (some : 0 < s) (all : t ≤ s) (more : s < nodes) where
+module _ {net : List ℕ} {m nodes : ℕ} {pot : List ℕ} {trail : Trail}
+    (S : Search net m nodes pot trail) (some : 0 < trail.scanned) (all : trail.reached ≤ trail.scanned) (more : trail.scanned < nodes) where
   N : Network net m nodes
   N = S.network
 
@@ -71,21 +49,21 @@ module _ {net : List ℕ} {m nodes : ℕ} {pot stamp via dist order key : List �
   P = S.potential
 
   -- the origin is near
-  origin_dist : at dist 0 ≤ 1000000
+  origin_dist : at trail.dist 0 ≤ 1000000
   origin_dist =
-      by_zero root
-      (λ z. omega (arith, ap (at dist) z, S.rooted.1))
+      by_zero trail.root
+      (λ z. omega (arith, ap (at trail.dist) z, S.rooted.1))
       (λ p.
-      let u = N.up root S.inside p in
-      let lm : 2 * root - 1 < m = omega (arith, N.links root S.inside p) in
-      let h = rw (u.0, u.1) at (S.into (2 * root - 1) lm (rw u.1 (omega (arith, S.rooted.0))) (rw u.1 (omega (arith, S.rooted.0)))) in
-      omega (arith, h, P.origin, N.costs (2 * root - 1) lm, S.rooted.1))
+      let u = N.up trail.root S.inside p in
+      let lm : 2 * trail.root - 1 < m = omega (arith, N.links trail.root S.inside p) in
+      let h = rw (u.0, u.1) at (S.into (2 * trail.root - 1) lm (rw u.1 (omega (arith, S.rooted.0))) (rw u.1 (omega (arith, S.rooted.0)))) in
+      omega (arith, h, P.origin, N.costs (2 * trail.root - 1) lm, S.rooted.1))
 
   -- so is a node that is not reached, where the origin is reached
-  out_dist : (v : ℕ) → v < nodes → at stamp v ≡ 0 → 0 < at stamp 0 → at dist v ≤ 2000000
+  out_dist : (v : ℕ) → v < nodes → at trail.stamp v ≡ 0 → 0 < at trail.stamp 0 → at trail.dist v ≤ 2000000
   out_dist v lv z p₀ =
       by_zero v
-      (λ q. absurd (omega (arith, ap (at stamp) q)))
+      (λ q. absurd (omega (arith, ap (at trail.stamp) q)))
       (λ p.
       let u = N.down v lv p in
       let lm : 2 * v - 2 < m = omega (arith, N.links v lv p) in
@@ -93,26 +71,26 @@ module _ {net : List ℕ} {m nodes : ℕ} {pot stamp via dist order key : List �
       omega (arith, h, P.origin, u.2, origin_dist, pot_bound net m nodes pot N P v lv))
 
   -- so some node that is not reached is
-  some_near : (v : ℕ) × (v < nodes) × (at stamp v ≡ 0) × (at dist v ≤ 2000000)
+  some_near : (v : ℕ) × (v < nodes) × (at trail.stamp v ≡ 0) × (at trail.dist v ≤ 2000000)
   some_near =
-      let z = zeros_some stamp nodes (omega (arith, S.count)) in
-      by_zero (at stamp 0)
+      let z = zeros_some trail.stamp nodes (omega (arith, S.count)) in
+      by_zero (at trail.stamp 0)
       (λ out. (0, N.some, out, omega (arith, origin_dist)))
       (λ p. (z.0, z.1, z.2, out_dist z.0 z.1 z.2 p))
 
-  module _ (w : ℕ) (h : Nearest key w) where
-    pub nearest_out : (w < nodes) × (at stamp w ≡ 0) × (at dist w ≤ 2000000)
+  module _ (w : ℕ) (h : Nearest trail.key w) where
+    pub nearest_out : (w < nodes) × (at trail.stamp w ≡ 0) × (at trail.dist w ≤ 2000000)
     nearest_out =
         let f = some_near in
-        let low : at key w ≤ 2000000 = omega (arith, h.least f.0 (omega (arith, f.1, N.few)), (S.keyed.keys f.0 f.1).out f.2, f.3) in
+        let low : at trail.key w ≤ 2000000 = omega (arith, h.least f.0 (omega (arith, f.1, N.few)), (S.keyed.keys f.0 f.1).out f.2, f.3) in
         let lw : w < nodes = by_cases (dec_lt w nodes) (λ l. l) (λ n. absurd (omega (arith, S.keyed.rest w (omega arith) h.inside))) in
-        let out : at stamp w ≡ 0 = by_zero (at stamp w) (λ z. z) (λ p. absurd (omega (arith, (S.keyed.keys w lw).reached p))) in
+        let out : at trail.stamp w ≡ 0 = by_zero (at trail.stamp w) (λ z. z) (λ p. absurd (omega (arith, (S.keyed.keys w lw).reached p))) in
         (lw, out, omega (arith, (S.keyed.keys w lw).out out))
 
-    pub search_nearest : Search net m nodes pot (set stamp w (t + 1)) via dist (set order t w) (set key w 8000000) root (t + 1) s (at dist w)
+    pub search_nearest : Search net m nodes pot (joined (record trail { distance = at trail.dist w }) w)
     search_nearest =
         let o = nearest_out in
         search_join
-        (search_farther S (at dist w) all (S.far w o.0 o.1) o.2
+        (search_farther S (at trail.dist w) all (S.far w o.0 o.1) o.2
         (λ v lv z. omega (arith, h.least v (omega (arith, N.few)), (S.keyed.keys v lv).out z, (S.keyed.keys w o.0).out o.1)))
         w o.0 o.1 (omega arith)

@@ -1,11 +1,12 @@
 -- The end of a search at the distance d: against the origin, a node at the distance x < d has risen by d - x.
-use Rattle.std.specs.Prelude.{ℕ, ◌+◌, ◌*◌, ◌-◌, ◌≤◌, ◌<◌, min, ◌≡◌, List, length, set}
+use Rattle.std.specs.Prelude.{ℕ, ◌+◌, ◌*◌, ◌-◌, ◌≤◌, ◌<◌, min, ◌≡◌, Option, Some, None, IfSome, IfNone, List, length, set}
 use Rattle.std.proofs.Common.{ap, arith, length-set, get_or-set_other}
 use Rattle.std.proofs.Math.Logic.{by_cases}
 use Rattle.std.proofs.Math.Decide.{dec_le}
 use Rattle.network.specs.Stored.{at, Beyond, tail_of, head_of, cost_of, flow_of, Network, Potential, pot_bound}
 use Rattle.network.specs.Lists.{by_zero, set_more, zeros_none}
 use Rattle.search.specs.Tree.{Reached}
+use Rattle.visit.specs.declared.Trail.{Trail}
 use Rattle.visit.specs.Search.{Search}
 
 -- every node below n has moved
@@ -36,38 +37,38 @@ lifted_more {pot₀} {pot} {dist} {d} {n} x h lt e =
       rest = λ k l. rw (get_or-set_other pot n k x 0 (omega arith)) (h.rest k (omega arith));
     }
 
-module _ {net : List ℕ} {m nodes : ℕ} {pot stamp via dist order key : List ℕ} {root t s d : ℕ}
-    (S : Search net m nodes pot stamp via dist order key root t s d) where
+module _ {net : List ℕ} {m nodes : ℕ} {pot : List ℕ} {trail : Trail}
+    (S : Search net m nodes pot trail) where
   N : Network net m nodes
   N = S.network
 
-  -- a node that is not scanned is at d or farther
-  past : (v : ℕ) → v < nodes → (0 < at stamp v → at stamp v ≤ s → ⊥) → d ≤ at dist v
+  -- a node that is not scanned is at the search's distance or farther
+  past : (v : ℕ) → v < nodes → (0 < at trail.stamp v → at trail.stamp v ≤ trail.scanned → ⊥) → trail.distance ≤ at trail.dist v
   past v lv h =
-      by_zero (at stamp v)
+      by_zero (at trail.stamp v)
       (λ z. S.far v lv z)
-      (λ p. S.waiting v lv (omega (arith, by_cases (dec_le (at stamp v) s) (λ l. absurd (h p l)) (λ n. n))))
+      (λ p. S.waiting v lv (omega (arith, by_cases (dec_le (at trail.stamp v) trail.scanned) (λ l. absurd (h p l)) (λ n. n))))
 
-  -- within d, every edge is relaxed
+  -- within that distance, every edge is relaxed
   short : (e : ℕ) → e < m
-      → min (at dist (tail_of net e)) d + (at pot (head_of net e) + 1000000) ≤ min (at dist (head_of net e)) d + (at pot (tail_of net e) + cost_of net e)
+      → min (at trail.dist (tail_of net e)) trail.distance + (at pot (head_of net e) + 1000000) ≤ min (at trail.dist (head_of net e)) trail.distance + (at pot (tail_of net e) + cost_of net e)
   short e le =
       let f = S.potential.feasible e le in
-      by_zero (at stamp (head_of net e))
+      by_zero (at trail.stamp (head_of net e))
       (λ z. omega (arith, S.far (head_of net e) (N.heads e le) z))
-      (λ p. by_cases (dec_le (at stamp (head_of net e)) s)
+      (λ p. by_cases (dec_le (at trail.stamp (head_of net e)) trail.scanned)
       (λ l. omega (arith, S.into e le p l))
       (λ n. omega (arith, S.waiting (head_of net e) (N.heads e le) (omega arith))))
 
-  level : (e : ℕ) → e < m → 0 < flow_of net e → min (at dist (head_of net e)) d ≤ min (at dist (tail_of net e)) d
+  level : (e : ℕ) → e < m → 0 < flow_of net e → min (at trail.dist (head_of net e)) trail.distance ≤ min (at trail.dist (tail_of net e)) trail.distance
   level e le pf =
-      by_zero (at stamp (tail_of net e))
+      by_zero (at trail.stamp (tail_of net e))
       (λ z. omega (arith, S.far (tail_of net e) (N.tails e le) z))
-      (λ p. by_cases (dec_le (at stamp (tail_of net e)) s)
+      (λ p. by_cases (dec_le (at trail.stamp (tail_of net e)) trail.scanned)
       (λ l. omega (arith, S.back e le p l pf))
       (λ n. omega (arith, S.waiting (tail_of net e) (N.tails e le) (omega arith))))
 
-  pub search_room : Movable pot dist d nodes
+  pub search_room : Movable pot trail.dist trail.distance nodes
   search_room =
       record {
         few = N.few;
@@ -82,7 +83,7 @@ module _ {net : List ℕ} {m nodes : ℕ} {pot stamp via dist order key : List �
         small = S.bound;
       }
 
-  module _ (pot' : List ℕ) (long : length pot' ≡ 81) (mv : Moved pot pot' dist d nodes) where
+  module _ (pot' : List ℕ) (long : length pot' ≡ 81) (mv : Moved pot pot' trail.dist trail.distance nodes) where
     moved_potential : Potential net m pot'
     moved_potential =
         record {
@@ -92,8 +93,9 @@ module _ {net : List ℕ} {m nodes : ℕ} {pot stamp via dist order key : List �
           tight = λ e le pf. omega (arith, mv _ (N.tails e le), mv _ (N.heads e le), short e le, level e le pf, S.potential.tight e le pf);
         }
 
-    pub search_reached : (goal : List ℕ) (r : ℕ) → (r < nodes → (0 < at stamp r) × (0 < at goal r))
-        → (nodes ≤ r → (nodes ≤ t) × ((v : ℕ) → v < nodes → 0 < at stamp v → at goal v ≡ 0)) → Reached net m nodes pot' stamp via root goal r
+    pub search_reached : (goal : List ℕ) (r : Option ℕ) → IfSome r (λ v. (v < nodes) × (0 < at trail.stamp v) × (0 < at goal v))
+        → IfNone r ((nodes ≤ trail.reached) × ((v : ℕ) → v < nodes → 0 < at trail.stamp v → at goal v ≡ 0))
+        → Reached net m nodes pot' trail.stamp trail.via trail.root goal r
     search_reached goal r found none =
         record {
           network = N;
@@ -112,11 +114,15 @@ module _ {net : List ℕ} {m nodes : ℕ} {pot stamp via dist order key : List �
           tight_links = λ v lv ne p q.
               let o = S.offers v lv ne (omega (arith, S.near v lv p, S.bound)) in
               let f = o.forth q in
-              let h = S.near (head_of net (at via v)) (N.heads (at via v) o.edge) f.0 in
-              omega (arith, mv _ (N.tails (at via v) o.edge), mv _ (N.heads (at via v) o.edge), f.1, h, S.near v lv p, ap (at dist) q, ap (at pot) q);
+              let h = S.near (head_of net (at trail.via v)) (N.heads (at trail.via v) o.edge) f.0 in
+              omega (arith, mv _ (N.tails (at trail.via v) o.edge), mv _ (N.heads (at trail.via v) o.edge), f.1, h, S.near v lv p, ap (at trail.dist) q, ap (at pot) q);
           found = found;
-          all = λ le v lv.
-              let n = none le in
-              let p = zeros_none stamp nodes (omega (arith, S.count, n.0)) v lv in
-              (p, n.1 v lv p);
+          all = all_reached goal r none;
         }
+      where
+        all_reached : (goal : List ℕ) (r : Option ℕ) → IfNone r ((nodes ≤ trail.reached) × ((v : ℕ) → v < nodes → 0 < at trail.stamp v → at goal v ≡ 0))
+            → IfNone r ((v : ℕ) → v < nodes → (0 < at trail.stamp v) × (at goal v ≡ 0))
+        all_reached goal (Some v) n = n
+        all_reached goal None n = λ v lv.
+            let p = zeros_none trail.stamp nodes (omega (arith, S.count, n.0)) v lv in
+            (p, n.1 v lv p)

@@ -4,7 +4,7 @@
 
 #![tactic(auto)]
 
-ghost use Rattle.std.specs.Prelude.{◌≡◌, ℕ, ◌+◌, ◌*◌, ◌-◌, ◌<◌, ◌≤◌, length};
+ghost use Rattle.std.specs.Prelude.{◌≡◌, ℕ, ◌+◌, ◌*◌, ◌-◌, ◌<◌, ◌≤◌};
 ghost use Rattle.network.specs.Stored.{at, Beyond, Network, Potential};
 ghost use Rattle.search.specs.Tree.{Reached};
 ghost use Rattle.search.specs.Nearest.{LeastKey, Nearest};
@@ -12,17 +12,15 @@ ghost use Rattle.network.specs.Index.{Index};
 ghost use Rattle.search.specs.Raise.{Movable, Lifted};
 ghost use Rattle.search.specs.Reach.{Goals, Begins, Explored};
 
-use visit::FAR;
+pub use visit::Trail;
 
 // The least of the keys.
 fn least_key(key: &[u32; 81]) -> u32
     ensures { LeastKey key.now 81 result }
 {
     let mut best = key[0];
-    let mut v = 1;
-    while v < 81 {
-        best = network::least(best, key[v]);
-        v += 1;
+    for v in 1..81 {
+        best = best.min(key[v]);
     }
     best
 }
@@ -32,11 +30,7 @@ fn nearest(key: &[u32; 81]) -> usize
     ensures { Nearest key.now result }
 {
     let best = least_key(key);
-    let mut w = 0;
-    while key[w] != best {
-        w += 1;
-    }
-    w
+    key.iter().position(|x| *x == best).unwrap()
 }
 
 // The node after w, if its key is d, the least that a key can be, else a node with the least key.
@@ -44,11 +38,9 @@ fn next(key: &[u32; 81], w: usize, d: u32) -> usize
     requires { (w < 81) × ((v : ℕ) → v < 81 → d ≤ at key.now v) }
     ensures { Nearest key.now result }
 {
-    let c = w + 1;
-    if c < 81 {
-        if key[c] == d {
-            return c;
-        }
+    let after = w + 1;
+    if after < 81 && key[after] == d {
+        return after;
     }
     nearest(key)
 }
@@ -58,40 +50,28 @@ fn raise(pot: &mut [u32; 81], dist: &[u32; 81], nodes: usize, d: u32)
     requires { Movable pot.old dist.now d nodes }
     ensures { Lifted pot.old pot.new dist.now d nodes }
 {
-    let base = network::least(dist[0], d);
-    let mut v = 0;
-    while v < nodes {
-        let fall = network::least(dist[v], d);
-        pot[v] = pot[v] + base - fall;
-        v += 1;
+    let base = dist[0].min(d);
+    for v in 0..nodes {
+        pot[v] = pot[v] + base - dist[v].min(d);
     }
 }
 
-// The last place of order from lo on and below hi whose node has a goal above 0, or hi.
-fn last_goal(order: &[usize; 81], goal: &[u32; 81], lo: usize, hi: usize) -> usize
+// The last node with a goal above 0 from place lo of order on and below hi.
+fn last_goal(order: &[usize; 81], goal: &[u32; 81], lo: usize, hi: usize) -> Option<usize>
     requires { (lo ≤ hi) × (hi ≤ 81) × ((k : ℕ) → k < hi → at order.now k < 81) }
     ensures { Goals order.now goal.now lo hi result }
 {
-    let mut k = hi;
-    while lo < k {
-        k -= 1;
+    for k in (lo..hi).rev() {
         let v = order[k];
         if 0 < goal[v] {
-            return k;
+            return Some(v);
         }
     }
-    hi
-}
-
-// Where a search ended: at a node with a goal, or with all nodes reached; and the distance that it came to.
-#[derive(Drop)]
-struct Found {
-    node: usize,
-    dist: u32,
+    None
 }
 
 // Search from root until a node with a goal above 0 is reached, or all are reached and none has a goal. Nodes that are not scanned by then are as far as any:
-// no edge at them leads nearer. The result is that node, or nodes, and the distance it came to.
+// no edge at them leads nearer. The result is that node.
 fn explore(
     net: &[u32],
     m: usize,
@@ -99,56 +79,33 @@ fn explore(
     tails: &[u32],
     heads: &[u32],
     pot: &[u32; 81],
-    stamp: &mut [usize; 81],
-    via: &mut [usize; 81],
-    dist: &mut [u32; 81],
+    trail: &mut Trail,
     root: usize,
     goal: &[u32; 81],
-) -> Found
-    requires { Begins net.now m nodes pot.now tails.now heads.now via.old dist.old root }
-    ensures { Explored net.now m nodes pot.now stamp.new via.new dist.new root goal.now result.node result.dist }
+) -> Option<usize>
+    requires { Begins net.now m nodes pot.now tails.now heads.now root }
+    ensures { Explored net.now m nodes pot.now trail.new root goal.now result }
 {
-    *stamp = [0usize; 81];
-    stamp[root] = 1;
-    dist[root] = 0;
-    let mut order = [0usize; 81];
-    order[0] = root;
-    // the distance of a node that is not reached, and FAR for any other
-    let mut key = [FAR; 81];
-    // t nodes are reached, the first seen of them have no goal, and the first s are scanned
-    let mut t = 1;
+    trail.start(root);
+    // the first seen of the nodes that are reached have no goal
     let mut seen = 0;
-    let mut s = 0;
-    let mut d = 0;
     while seen < nodes {
-        let g = last_goal(&order, goal, seen, t);
-        if g < t {
-            return Found {
-                node: order[g],
-                dist: d,
-            };
+        if let Some(node) = last_goal(&trail.order, goal, seen, trail.reached) {
+            return Some(node);
         }
-        seen = t;
-        if s == t {
-            let w = next(&key, order[t - 1], d);
-            d = dist[w];
-            visit::join(stamp, &mut order, &mut key, w, t);
-            t += 1;
+        seen = trail.reached;
+        if trail.scanned == trail.reached {
+            let w = next(&trail.key, trail.order[seen - 1], trail.distance);
+            trail.distance = trail.dist[w];
+            trail.join(w);
         } else {
-            t = scan::scan(
-                net, m, nodes, tails, heads, pot, stamp, via, dist, &mut order, &mut key, root, t,
-                s, d,
-            );
-            s += 1;
+            scan::scan(net, m, nodes, tails, heads, pot, trail);
         }
     }
-    Found {
-        node: nodes,
-        dist: d,
-    }
+    None
 }
 
-// Reach nodes from root until one with a goal above 0 is found, or until all are reached. The result is that node, or nodes.
+// Reach nodes from root until one with a goal above 0 is found, or until all are reached. The result is that node.
 pub fn reach(
     net: &[u32],
     m: usize,
@@ -156,26 +113,23 @@ pub fn reach(
     tails: &[u32],
     heads: &[u32],
     pot: &mut [u32; 81],
-    stamp: &mut [usize; 81],
-    via: &mut [usize; 81],
+    trail: &mut Trail,
     root: usize,
     goal: &[u32; 81],
-) -> usize
+) -> Option<usize>
     requires network { Network net.now m nodes }
     requires potential { Potential net.now m pot.old }
     requires index { Index net.now m (2 * nodes - 2) 0 tails.now }
     requires index_2 { Index net.now m (2 * nodes - 2) 1 heads.now }
-    requires stamp_len { (length stamp.old ≡ 81) × (length via.old ≡ 81) × (root < nodes) }
-    ensures reached { Reached net.now m nodes pot.new stamp.new via.new root goal.now result }
+    requires root_lt_nodes { root < nodes }
+    ensures reached { Reached net.now m nodes pot.new trail.new.stamp trail.new.via root goal.now result }
+    ensures rooted { trail.new.root ≡ root }
     ensures beyond { Beyond pot.old pot.new nodes }
 {
-    let mut dist = [FAR; 81];
-    let found = explore(
-        net, m, nodes, tails, heads, pot, stamp, via, &mut dist, root, goal,
-    );
+    let found = explore(net, m, nodes, tails, heads, pot, trail, root, goal);
     // at distance 0 nothing moves
-    if 0 < found.dist {
-        raise(pot, &dist, nodes, found.dist);
+    if 0 < trail.distance {
+        raise(pot, &trail.dist, nodes, trail.distance);
     }
-    found.node
+    found
 }

@@ -1,11 +1,10 @@
 -- The loop over the rules: the kept ones are in the network of the points, with a potential that meets them. Rests on `mending`'s Selection, and on `schedule`
 -- and `admit` for one rule more.
-use Rattle.std.specs.Prelude.{ℕ, suc, ◌+◌, ◌*◌, ◌≤◌, ◌<◌, ◌≡◌, refl, Bool, true, false, List, [], ◌∷◌, ◌++◌, map, T, ℤ, pos, length, get_or, set, drop, replicate}
-use Rattle.std.proofs.Common.{sym, ap, subst, ◌∙◌, arith, length-append, drop_of_length-le, drop-cons, to_z, of_z}
+use Rattle.std.specs.Prelude.{ℕ, suc, ◌+◌, ◌*◌, ◌≤◌, ◌<◌, ◌≡◌, refl, Bool, true, false, List, [], ◌∷◌, ◌++◌, map, T, pos, length, get_or, set, drop, replicate}
+use Rattle.std.proofs.Common.{sym, ap, subst, ◌∙◌, arith, length-append, drop_of_length-le, drop-cons}
 use Rattle.std.proofs.Math.Dec.{not_T}
 use Rattle.std.proofs.Math.ListN.{get_or-append}
 use Rattle.std.proofs.Math.Seq.{get_or-append_seam}
-use Rattle.std.specs.Int.{w32}
 use Rattle.temporal.specs.Lists.{All}
 use Rattle.temporal.proofs.Lists.{T-true, T-false, All-join, All-below}
 use Rattle.temporal.specs.Bound.{biased}
@@ -24,8 +23,9 @@ use Rattle.ticket.proofs.Laws.{pad_set, pad_map}
 use Rattle.ticket.proofs.Agree.{field_at, firsts_cong, firsts_all}
 use Rattle.ticket.proofs.Content.{in_rules}
 use Rattle.ticket.specs.declared.Ticket.{Ticket}
+use Rattle.select.specs.declared.Mended.{Mended}
 use Rattle.potentials.specs.Arrays.{no_rule, Given, rule_in_lem, valid_given}
-use Rattle.demands.specs.Rules.{SmallRule, given_small, given_bound}
+use Rattle.demands.specs.Rules.{SmallRule, given_small}
 use Rattle.schedule.specs.Times.{times_of, schedule_timed, timed_schedule}
 use Rattle.schedule.specs.Schedule.{low_zeros, Tried, tried_start, tried_more, tried_none, tried_timed}
 use Rattle.mending.specs.Selection.{with_rules, consistent_with, Selection, nothing, keeping, dropping, step, select, selected, mended, dropped}
@@ -135,34 +135,62 @@ module _ (t : Ticket) (rules : List Rule) (r : Rule) where
 
 -- ---- the loop
 
--- after j rules: the selection so far in arrays, the rest of it, and the network of the kept rules
-pub record Selecting (t : Ticket) (size : ℕ) (net pot tails heads : List ℕ) (j : ℕ) (from to : List ℕ) (bound : List ℤ) (numbers : List ℕ) (kept lost : ℕ) : Type 0 where
+-- rule j of k kept, and the number of a dropped rule listed
+abbrev pub keeps : Mended → Ticket → ℕ → Mended
+keeps m k j =
+    let t = m.ticket in
+    record {
+      ticket = record {
+        horizon = t.horizon;
+        events = t.events;
+        owners = t.owners;
+        rules = t.rules + 1;
+        from = set t.from t.rules (at k.from j);
+        to = set t.to t.rules (at k.to j);
+        bound = set t.bound t.rules (get_or k.bound j (pos 0));
+      };
+      dropped = m.dropped;
+      numbers = m.numbers;
+    }
+
+abbrev pub lists : Mended → ℕ → Mended
+lists m number = record { ticket = m.ticket; dropped = m.dropped + 1; numbers = set m.numbers m.dropped number }
+
+-- after j rules: the selection so far in m, the rest of it, and the network of the kept rules
+pub record Selecting (t : Ticket) (size : ℕ) (net pot tails heads : List ℕ) (j : ℕ) (m : Mended) : Type 0 where
   pub selection : Selection
   pub rest : select (content t) selection (j + 1) (drop j (content t).rules) ≡ selected (content t)
-  pub count : length selection.kept + length selection.dropped ≡ j
+  pub counted : m.ticket.rules + m.dropped ≡ j
   pub valid : All (ValidRule (events (content t))) selection.kept
   pub tried : Tried net size (kept_struct t selection.kept) pot tails heads (length selection.kept)
-  pub kept_is : kept ≡ length selection.kept
-  pub from_is : from ≡ (kept_struct t selection.kept).from
-  pub to_is : to ≡ (kept_struct t selection.kept).to
-  pub bound_is : bound ≡ (kept_struct t selection.kept).bound
-  pub lost_is : lost ≡ length selection.dropped
-  pub numbers_is : numbers ≡ pad 0 256 selection.dropped
+  pub ticket_is : m.ticket ≡ kept_struct t selection.kept
+  pub dropped_is : m.dropped ≡ length selection.dropped
+  pub numbers_is : m.numbers ≡ pad 0 256 selection.dropped
+
+-- the struct with no rules
+abbrev no_rules : Ticket → Ticket
+no_rules t =
+    record {
+      horizon = t.horizon;
+      events = t.events;
+      owners = t.owners;
+      rules = 0;
+      from = replicate 256 0;
+      to = replicate 256 0;
+      bound = replicate 256 (pos 0);
+    }
 
 pub selecting_start : (t : Ticket) {size : ℕ} {net pot tails heads : List ℕ} → Tried net size (kept_struct t []) pot tails heads 0
-    → Selecting t size net pot tails heads 0 (replicate 256 0) (replicate 256 0) (replicate 256 (pos 0)) (replicate 256 0) 0 0
+    → Selecting t size net pot tails heads 0 (record { ticket = no_rules t; dropped = 0; numbers = replicate 256 0 })
 unfolding selected pad
 selecting_start t T = record {
   selection = nothing;
   rest = refl;
-  count = refl;
+  counted = refl;
   valid = tt;
   tried = T;
-  kept_is = refl;
-  from_is = refl;
-  to_is = refl;
-  bound_is = refl;
-  lost_is = refl;
+  ticket_is = refl;
+  dropped_is = refl;
   numbers_is = refl;
 }
 
@@ -172,27 +200,28 @@ pub boxes_tried : (t : Ticket) {net : List ℕ} → Valid (content t) → 8 * t.
     → Tried net (length net) (kept_struct t []) (replicate 81 0) (replicate 400 0) (replicate 400 0) 0
 boxes_tried t ok l B = tried_start (kept_given t [] (valid_with (content t) [] ok (omega arith) tt)) l (low_zeros t.events t.horizon) B
 
-module _ {t : Ticket} {size : ℕ} {net pot tails heads : List ℕ} {j : ℕ} {from to : List ℕ} {bound : List ℤ} {numbers : List ℕ} {kept lost : ℕ}
-    (S : Selecting t size net pot tails heads j from to bound numbers kept lost) (ok : Valid (content t)) (lj : j < t.rules) where
+module _ {t : Ticket} {size : ℕ} {net pot tails heads : List ℕ} {j : ℕ} {m : Mended} (S : Selecting t size net pot tails heads j m) (ok : Valid (content t)) (lj : j < t.rules) where
   abbrev this : Rule
   this = rule_in t j
 
   few : j < 256
   few = omega (arith, lj, ok.rules_limit, in_rules t)
 
-  -- what the stores ask
-  pub selecting_few : (j < 256) × (kept + lost ≡ j)
-  selecting_few = (few, omega (arith, S.kept_is, S.lost_is, S.count))
+  kept_is : m.ticket.rules ≡ length S.selection.kept
+  kept_is = ap (λ (k : Ticket). k.rules) S.ticket_is
+
+  count : length S.selection.kept + length S.selection.dropped ≡ j
+  count = omega (arith, S.counted, kept_is, S.dropped_is)
 
   -- what adding the rule asks
   pub selecting_asks : 8 * t.events + 4 * t.rules ≤ size
-      → Growing net (2 * t.events + kept) (t.events + 1) pot tails heads × SmallRule t.events this.from this.to (to_z w32 (of_z w32 this.bound))
-      × ((t.events ≤ 40) × (kept < 256) × (4 * (2 * t.events + kept) + 3 < length net))
+      → Growing net (2 * t.events + m.ticket.rules) (t.events + 1) pot tails heads × ((j < 256) × SmallRule t.events this.from this.to this.bound)
+      × ((t.events ≤ 40) × (m.ticket.rules < 256) × (4 * (2 * t.events + m.ticket.rules) + 3 < length net))
   selecting_asks l =
       let G = valid_given t ok in (
-        subst (λ m. Growing net (2 * t.events + m) (t.events + 1) pot tails heads) (sym S.kept_is) S.tried.growing,
-        rw (given_bound G j lj) (given_small G j lj),
-        (G.few, omega (arith, selecting_few), omega (arith, selecting_few, S.tried.long)),
+        subst (λ k. Growing net (2 * t.events + k) (t.events + 1) pot tails heads) (sym kept_is) S.tried.growing,
+        (few, given_small G j lj),
+        (G.few, omega (arith, S.counted, few), omega (arith, S.counted, S.tried.long)),
       )
 
   -- the selection takes a step
@@ -201,54 +230,59 @@ module _ {t : Ticket} {size : ℕ} {net pot tails heads : List ℕ} {j : ℕ} {f
   stepped = (rw (drop-cons (content t).rules j no_rule (omega (arith, in_rules t)), rule_in_lem t j lj) at S.rest)
 
   longer_valid : Valid (with_rules (content t) (S.selection.kept ++ this ∷ []))
-  longer_valid = valid_with (content t) (S.selection.kept ++ this ∷ []) ok (omega (arith, length-append S.selection.kept (this ∷ []), S.count, few))
+  longer_valid = valid_with (content t) (S.selection.kept ++ this ∷ []) ok (omega (arith, length-append S.selection.kept (this ∷ []), count, few))
       (All-join _ S.selection.kept (this ∷ []) S.valid (one, tt))
     where
       one : ValidRule (events (content t)) this
       one = rw (rule_in_lem t j lj) at (All-below (ValidRule (events (content t))) no_rule (content t).rules ok.rules_valid j (omega (arith, in_rules t)))
 
+  kept_more : keeps (record { ticket = kept_struct t S.selection.kept; dropped = m.dropped; numbers = m.numbers }) t j
+      ≡ record { ticket = kept_struct t (S.selection.kept ++ this ∷ []); dropped = m.dropped; numbers = m.numbers }
+  kept_more =
+      let s = S.selection in
+      let l : length s.kept < 256 = omega (arith, count, few) in
+      rw (
+        length-append s.kept (this ∷ []),
+        pad_map (λ (r : Rule). r.from) 0 256 s.kept (length s.kept) this refl l,
+        pad_map (λ (r : Rule). r.to) 0 256 s.kept (length s.kept) this refl l,
+        pad_map (λ (r : Rule). r.bound) (pos 0) 256 s.kept (length s.kept) this refl l,
+      )
+
   module _ {net' pot' tails' heads' : List ℕ} where
-    pub selecting_kept : Admits net net' (2 * t.events + kept) (t.events + 1) pot' tails' heads' this.from this.to (biased this.bound) true
-        → Selecting t size net' pot' tails' heads' (j + 1) (set from kept this.from) (set to kept this.to) (set bound kept this.bound) numbers (kept + 1) lost
+    pub selecting_kept : Admits net net' (2 * t.events + m.ticket.rules) (t.events + 1) pot' tails' heads' this.from this.to (biased this.bound) true
+        → Selecting t size net' pot' tails' heads' (j + 1) (keeps m t j)
     selecting_kept A =
         let s = S.selection in
-        let A' = rw S.kept_is at A in
-        let l : length s.kept < 256 = omega (arith, S.count, few) in
+        let A' = rw kept_is at A in
         let u : suc (j + 1) ≡ j + 1 + 1 = omega arith in
         let d : suc j ≡ j + 1 = omega arith in
         record {
           selection = keeping s this;
           rest = rw (consistent_kept t s.kept this S.tried longer_valid A', u, d) at stepped;
-          count = omega (arith, S.count, length-append s.kept (this ∷ []));
+          counted = omega (arith, S.counted);
           valid = longer_valid.rules_valid;
           tried = tried_kept t s.kept this S.tried longer_valid A';
-          kept_is = omega (arith, S.kept_is, length-append s.kept (this ∷ []));
-          from_is = rw (S.from_is, S.kept_is) (pad_map (λ (r : Rule). r.from) 0 256 s.kept (length s.kept) this refl l);
-          to_is = rw (S.to_is, S.kept_is) (pad_map (λ (r : Rule). r.to) 0 256 s.kept (length s.kept) this refl l);
-          bound_is = rw (S.bound_is, S.kept_is) (pad_map (λ (r : Rule). r.bound) (pos 0) 256 s.kept (length s.kept) this refl l);
-          lost_is = S.lost_is;
+          ticket_is = rw S.ticket_is (ap (λ (m : Mended). m.ticket) kept_more);
+          dropped_is = S.dropped_is;
           numbers_is = S.numbers_is;
         }
 
-    pub selecting_dropped : Admits net net' (2 * t.events + kept) (t.events + 1) pot' tails' heads' this.from this.to (biased this.bound) false
-        → Selecting t size net' pot' tails' heads' (j + 1) from to bound (set numbers lost (j + 1)) kept (lost + 1)
+    pub selecting_dropped : Admits net net' (2 * t.events + m.ticket.rules) (t.events + 1) pot' tails' heads' this.from this.to (biased this.bound) false
+        → Selecting t size net' pot' tails' heads' (j + 1) (lists m (j + 1))
     selecting_dropped A =
         let s = S.selection in
-        let A' = rw S.kept_is at A in
+        let A' = rw kept_is at A in
         let u : suc (j + 1) ≡ j + 1 + 1 = omega arith in
         let d : suc j ≡ j + 1 = omega arith in
         record {
           selection = dropping s (j + 1);
           rest = rw (consistent_dropped t s.kept this S.tried longer_valid A', u, d) at stepped;
-          count = omega (arith, S.count, length-append s.dropped ((j + 1) ∷ []));
+          counted = omega (arith, S.counted);
           valid = S.valid;
           tried = tried_dropped t s.kept this S.tried longer_valid A';
-          kept_is = S.kept_is;
-          from_is = S.from_is;
-          to_is = S.to_is;
-          bound_is = S.bound_is;
-          lost_is = omega (arith, S.lost_is, length-append s.dropped ((j + 1) ∷ []));
-          numbers_is = rw (S.numbers_is, S.lost_is) (pad_set 0 256 s.dropped (length s.dropped) (j + 1) refl (omega (arith, S.count, few)));
+          ticket_is = S.ticket_is;
+          dropped_is = omega (arith, S.dropped_is, length-append s.dropped ((j + 1) ∷ []));
+          numbers_is = rw (S.numbers_is, S.dropped_is) (pad_set 0 256 s.dropped (length s.dropped) (j + 1) refl (omega (arith, count, few)));
         }
 
 -- ---- at the end of the rules
@@ -258,14 +292,13 @@ array_numbers : (numbers : List ℕ) → firsts (length numbers) (at (pad 0 256 
 unfolding pad
 array_numbers numbers = firsts_cong _ _ _ (λ i l. get_or-append numbers _ 0 i l) ∙ firsts_all numbers 0
 
-module _ {t : Ticket} {size : ℕ} {net pot tails heads : List ℕ} {j : ℕ} {from to : List ℕ} {bound : List ℤ} {numbers : List ℕ} {kept lost : ℕ}
-    (S : Selecting t size net pot tails heads j from to bound numbers kept lost) (e : j ≡ t.rules) where
+module _ {t : Ticket} {size : ℕ} {net pot tails heads : List ℕ} {j : ℕ} {m : Mended} (S : Selecting t size net pot tails heads j m) (e : j ≡ t.rules) where
   done : S.selection ≡ selected (content t)
   unfolding select
   done = (rw (drop_of_length-le (content t).rules {i = j} (omega (arith, in_rules t))) at S.rest)
 
-  pub selecting_mended : content (record { horizon = t.horizon; events = t.events; owners = t.owners; rules = kept; from = from; to = to; bound = bound }) ≡ mended (content t)
-  selecting_mended = rw (S.kept_is, S.from_is, S.to_is, S.bound_is) (kept_content t S.selection.kept ∙ ap (λ (s : Selection). with_rules (content t) s.kept) done)
+  pub selecting_mended : content m.ticket ≡ mended (content t)
+  selecting_mended = rw S.ticket_is (kept_content t S.selection.kept ∙ ap (λ (s : Selection). with_rules (content t) s.kept) done)
 
-  pub selecting_listed : firsts lost (at numbers) ≡ dropped (content t)
-  selecting_listed = rw (S.lost_is, S.numbers_is) (array_numbers S.selection.dropped ∙ ap (λ (s : Selection). s.dropped) done)
+  pub selecting_listed : firsts m.dropped (at m.numbers) ≡ dropped (content t)
+  selecting_listed = rw (S.dropped_is, S.numbers_is) (array_numbers S.selection.dropped ∙ ap (λ (s : Selection). s.dropped) done)

@@ -1,6 +1,6 @@
 -- What the code has answered and written at each of its returns. Rests on After, on `closure`'s Answers for the entries, and on `ticket` for what reading
 -- answers.
-use Rattle.std.specs.Prelude.{ℕ, ◌+◌, ◌*◌, ◌≤◌, min, ◌≡◌, Bool, List, ◌++◌, ◌≢◌, T, ℤ, length, drop}
+use Rattle.std.specs.Prelude.{ℕ, ◌+◌, ◌*◌, ◌≤◌, min, ◌≡◌, Bool, List, ◌++◌, Ok, Err, ◌≢◌, T, ℤ, length, drop}
 use Rattle.std.proofs.Common.{sym, ap, subst, ◌∙◌, arith}
 use Rattle.temporal.specs.Lists.{All}
 use Rattle.temporal.proofs.Lists.{T-true}
@@ -13,7 +13,9 @@ use Rattle.ticket.proofs.WritingLaws.{firsts_tab}
 use Rattle.ticket.specs.Stored.{whole_ticket}
 use Rattle.ticket.proofs.Content.{in_events, limits, read_refused, read_got, read_content}
 use Rattle.ticket.specs.declared.Ticket.{Ticket}
-use Rattle.ticket.specs.declared.ReadTicket.{ReadTicket}
+use Rattle.ticket.specs.declared.Refusal.{Refusal}
+use Rattle.ticket.specs.Refusal.{number_of}
+use Rattle.ticket.proofs.Refusals.{refusal_number}
 use Rattle.closure.specs.Cases.{by_bool}
 use Rattle.closure.specs.Matrix.{Matrix, none, shown, Everywhere}
 use Rattle.closure.specs.Start.{first_entries}
@@ -21,7 +23,7 @@ use Rattle.closure.specs.Stops.{after, Floors, AboveFloors}
 use Rattle.closure.specs.Steps.{Closed, Written}
 use Rattle.closure.specs.Answers.{start_floors, start_top, closed_consistent, closed_none, start_kept, after_first, after_small, written_filled}
 use Rattle.table.specs.Lent.{rules_of}
-use Rattle.table.specs.Rules.{ValidArrays, valid_arrays}
+use Rattle.table.proofs.Rules.{valid_rules}
 use Rattle.stops.specs.After.{working_at, worked, after_reading, table_after}
 use Rattle.stops.proofs.After.{after_read, worked_some}
 
@@ -32,9 +34,9 @@ module _ (t : Ticket) (v : Valid (content t)) where
   pub arrays_hold : rules_of t.rules t.from t.to t.bound ≡ (content t).rules
   arrays_hold = sym (firsts_tab t.rules (rule_in t))
 
-  pub arrays_valid : ValidArrays 40 t.rules t.from t.to t.bound
+  pub arrays_valid : All (ValidRule 40) (rules_of t.rules t.from t.to t.bound)
   arrays_valid =
-      valid_arrays t.events t.rules t.from t.to t.bound (limits t v).few
+      valid_rules t.events (rules_of t.rules t.from t.to t.bound) (limits t v).few
       (subst (λ n. All (ValidRule n) (rules_of t.rules t.from t.to t.bound)) (in_events t) (subst (All (ValidRule (events (content t)))) (sym arrays_hold) v.rules_valid))
 
   -- the entries D before the first stop
@@ -77,12 +79,12 @@ module _ (t : Ticket) (v : Valid (content t)) where
 
 -- ---- reading
 
-module _ (ticket : List ℕ) (s : ℕ) (out : List ℤ) (room : 1681 ≤ length out) {x : ReadTicket} (e : x ≡ whole_ticket ticket) where
-  pub ticket_misread : x.number ≢ 0 → (x.number, out) ≡ table_after ticket s out
-  ticket_misread n =
-      let c = read_refused ticket e n in
-      ap (λ (m : ℕ). (m, out)) c.2 ∙ sym (after_read ticket s out room ∙ ap (after_reading s out) c.1)
+module _ (ticket : List ℕ) (s : ℕ) (out : List ℤ) (room : 1681 ≤ length out) where
+  pub ticket_misread : {r : Refusal} → Err r ≡ whole_ticket ticket → (number_of r, out) ≡ table_after ticket s out
+  ticket_misread e =
+      let c = read_refused ticket e in
+      ap (λ (m : ℕ). (m, out)) (ap number_of c.2 ∙ refusal_number c.0) ∙ sym (after_read ticket s out room ∙ ap (after_reading s out) c.1)
 
-  pub ticket_worked : x.number ≡ 0 → worked (content x.ticket) s out ≡ table_after ticket s out
-  ticket_worked z =
-      ap (λ k. worked k s out) (read_content ticket e z) ∙ ap (after_reading s out) (sym (read_got ticket e z).2) ∙ sym (after_read ticket s out room)
+  pub ticket_worked : {t : Ticket} → Ok t ≡ whole_ticket ticket → worked (content t) s out ≡ table_after ticket s out
+  ticket_worked e =
+      ap (λ k. worked k s out) (read_content ticket e) ∙ ap (after_reading s out) (sym (read_got ticket e).2) ∙ sym (after_read ticket s out room)

@@ -8,26 +8,21 @@ ghost use Rattle.std.specs.Prelude.{◌≡◌, ◌≤◌, length};
 ghost use Rattle.temporal.specs.Distance.{consistent};
 ghost use Rattle.temporal.specs.Run.{Valid};
 ghost use Rattle.ticket.specs.Writing.{content};
+ghost use Rattle.ticket.specs.Refusal.{answer_number};
 ghost use Rattle.closure.specs.Matrix.{entry, Everywhere};
 ghost use Rattle.closure.specs.Start.{first_entries};
 ghost use Rattle.stops.specs.After.{worked, table_after};
 
 use table::OUTPUT;
-use ticket::Ticket;
+use ticket::{Refusal, Ticket};
 
 // The entries before the first stop.
 pub fn first_entries(t: Ticket) -> [u64; 1681]
     requires { Valid (content t) }
     ensures { (length result ≡ 1681) × Everywhere 40 (λ i j. entry result i j ≡ first_entries (content t) i j) }
 {
-    let from = t.from;
-    let to = t.to;
-    let bound = t.bound;
-    table::ruled(
-        t.horizon as u64,
-        t.rules,
-        table::RuleArrays { from, to, bound },
-    )
+    let rules = table::gathered(t.rules, &t.from, &t.to, &t.bound);
+    table::ruled(u64::from(t.horizon), &rules[..t.rules])
 }
 
 // Whether the ticket has a schedule.
@@ -40,33 +35,27 @@ fn has_schedule(t: Ticket) -> bool
 }
 
 // The working table of a ticket that was read.
-fn work(t: Ticket, stops: u32, out: &mut [i32]) -> u32
+fn work(t: Ticket, stops: u32, out: &mut [i32]) -> Result<(), Refusal>
     requires { Valid (content t) × (1681 ≤ length out.old) }
-    ensures { (result, out.new) ≡ worked (content t) stops out.old }
+    ensures { (answer_number result, out.new) ≡ worked (content t) stops out.old }
 {
     if !has_schedule(t) {
-        return 9;
+        return Err(Refusal::Impossible);
     }
     let n = t.events;
-    let taken = table::lesser(stops as usize, n + 1);
+    let taken = (stops as usize).min(n + 1);
     let mut w = first_entries(t);
     closure::take_stops(&mut w, n, taken);
     closure::write(&w, n, out);
-    0
+    Ok(())
 }
 
-// The working table of the ticket that the bytes hold, after the first `stops` of its stops: the answer's number, and the entries in the output.
-pub fn table_after(ticket: &[u8], stops: u32, out: &mut [i32]) -> u32
-    ensures { (result, out.new) ≡ table_after ticket.now stops out.old }
+// The working table of the ticket that the bytes hold, after the first `stops` of its stops. A refusal leaves the output as it is.
+pub fn table_after(ticket: &[u8], stops: u32, out: &mut [i32]) -> Result<(), Refusal>
+    ensures { (answer_number result, out.new) ≡ table_after ticket.now stops out.old }
 {
     if out.len() < OUTPUT {
-        return 10;
+        return Err(Refusal::Room);
     }
-    let read = reading::read_ticket(ticket);
-    let number = read.number;
-    if number != 0 {
-        return number;
-    }
-    let t = read.ticket;
-    work(t, stops, out)
+    work(reading::read_ticket(ticket)?, stops, out)
 }

@@ -1,6 +1,6 @@
 -- A text put into a list.
-use Rattle.std.specs.Prelude.{ℕ, suc, ◌+◌, ◌≤◌, ◌<◌, ◌≡◌, refl, List, [], ◌∷◌, ◌++◌, length, set, take, get_or}
-use Rattle.std.proofs.Common.{sym, ap, ◌∙◌, add-zero, add-suc, suc-add, add_assoc, add-one, arith, length-append, take-suc, length-take-le}
+use Rattle.std.specs.Prelude.{ℕ, suc, ◌+◌, ◌≤◌, ◌<◌, ◌≡◌, refl, List, [], ◌∷◌, ◌++◌, length, set}
+use Rattle.std.proofs.Common.{sym, ap, ◌∙◌, add-zero, add-suc, suc-add, arith, length-append, length-take-le}
 use Rattle.std.proofs.lemmas.List.Edits.{sets}
 use Rattle.std.proofs.Math.Seq.{length-sets}
 use Rattle.io.specs.Counts.{IsPrefixLen}
@@ -32,13 +32,6 @@ puts_length {text} {before} {after} {at} p = ap length p.stored ∙ length-sets 
 
 pub puts_one : (before : List ℕ) (at x : ℕ) → at < length before → Puts (x ∷ []) before (set before at x) at (at + 1)
 puts_one before at x h = record { stored = refl; end = refl; inside = omega arith }
-
--- one element more of a list that is copied
-pub puts_more : (word : List ℕ) {before after : List ℕ} {at : ℕ} (i : ℕ) → i < length word → at + length word ≤ length before
-    → Puts (take i word) before after at (at + i) → Puts (take (i + 1) word) before (set after (at + i) (get_or word i 0)) at (at + (i + 1))
-puts_more word {before} {after} {at} i h f p =
-    rw (add-one i, take-suc word i 0, ← (add-one i), ← (add_assoc at i 1))
-    (puts_then p (puts_one after (at + i) (get_or word i 0) (omega (arith, puts_length p))))
 
 pub puts_as : {text other before after : List ℕ} {at next : ℕ} → text ≡ other → Puts text before after at next → Puts other before after at next
 puts_as e p = rw e at p

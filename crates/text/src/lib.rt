@@ -1,4 +1,5 @@
 // The text of an answer, written into a lent slice. Each function answers the index after what it wrote.
+// The slice and the index stand apart: for a struct of both each contract would have to say that it still holds the slice that was lent.
 // Rests on `ticket` for the struct of a record.
 
 #![tactic(auto)]
@@ -8,13 +9,13 @@ ghost use Rattle.text.specs.Text.{decimal, refusal, heading, event_line, totals_
 ghost use Rattle.text.specs.Text.{digit as Text·digit};
 ghost use Rattle.text.specs.Stores.{Puts};
 
-use ticket::{Record, Ticket};
+use ticket::Record;
 
 fn digit(d: u32) -> u8
     requires { d < 10 }
     ensures { result ≡ Text·digit d }
 {
-    48 + d as u8
+    b'0' + d as u8
 }
 
 // One byte.
@@ -27,6 +28,7 @@ pub fn put_byte(out: &mut [u8], at: usize, b: u8) -> usize
 }
 
 // x in decimal digits.
+// `write!` into a slice would answer a `Result`, which a slice with room enough has no use for.
 fn put_number(out: &mut [u8], at: usize, x: u32) -> usize
     requires { at + length (decimal x) ≤ length out.old }
     ensures { Puts (decimal x) out.old out.new at result }
@@ -53,12 +55,9 @@ pub fn put_word(out: &mut [u8], at: usize, word: &[u8]) -> usize
     requires { at + length word.now ≤ length out.old }
     ensures { Puts word.now out.old out.new at result }
 {
-    let mut i = 0;
-    while i < word.len() {
-        out[at + i] = word[i];
-        i += 1;
-    }
-    at + i
+    let next = at + word.len();
+    out[at..next].copy_from_slice(word);
+    next
 }
 
 fn put_event(out: &mut [u8], at: usize, event: u32, owner: u8, opens: u32, closes: u32) -> usize
@@ -67,29 +66,22 @@ fn put_event(out: &mut [u8], at: usize, event: u32, owner: u8, opens: u32, close
     ensures upper_bound { result ≤ at + 44 }
 {
     let a = put_part(out, at, event, b' ');
-    let b = put_part(out, a, owner as u32, b' ');
+    let b = put_part(out, a, u32::from(owner), b' ');
     let c = put_part(out, b, opens, b' ');
     put_part(out, c, closes, b'\n')
 }
 
-// The lines of n events.
-fn put_events<'a>(
-    out: &mut [u8],
-    at: usize,
-    n: usize,
-    owners: &'a [u8; Ticket::EVENTS],
-    opens: &'a [u32; Ticket::EVENTS],
-    closes: &'a [u32; Ticket::EVENTS],
-) -> usize
-    requires { (n ≤ 40) × (at + 44 * n ≤ length out.old) }
-    ensures puts { Puts (each n (line_at owners.now opens.now closes.now)) out.old out.new at result }
-    ensures upper_bound { result ≤ at + 44 * n }
+// The lines of a plan's events.
+fn put_events(out: &mut [u8], at: usize, plan: &Record) -> usize
+    requires { (plan.now.ticket.events ≤ 40) × (at + 44 * plan.now.ticket.events ≤ length out.old) }
+    ensures puts { Puts (each plan.now.ticket.events (line_at plan.now.ticket.owners plan.now.opens plan.now.closes)) out.old out.new at result }
+    ensures upper_bound { result ≤ at + 44 * plan.now.ticket.events }
 {
     let mut next = at;
-    let mut i = 0;
-    while i < n {
-        next = put_event(out, next, (i + 1) as u32, owners[i], opens[i], closes[i]);
-        i += 1;
+    for i in 0..plan.ticket.events {
+        let event = (i + 1) as u32;
+        let owner = plan.ticket.owners[i];
+        next = put_event(out, next, event, owner, plan.opens[i], plan.closes[i]);
     }
     next
 }
@@ -119,13 +111,8 @@ pub fn put_plan(out: &mut [u8], plan: Record, total: u32) -> usize
     ensures puts { Puts (record_text plan total) out.old out.new 0 result }
     ensures upper_bound { result ≤ 1787 }
 {
-    let t = plan.ticket;
-    let n = t.events;
-    let owners = t.owners;
-    let opens = plan.opens;
-    let closes = plan.closes;
-    let next = put_heading(out, n as u32, total);
-    put_events(out, next, n, &owners, &opens, &closes)
+    let next = put_heading(out, plan.ticket.events as u32, total);
+    put_events(out, next, &plan)
 }
 
 // The line of the five part totals.

@@ -35,7 +35,7 @@ unfolding firsts
 firsts_cong zero f g h = refl
 firsts_cong (suc n) f g h = ap₂ (λ xs x. xs ++ x ∷ []) (firsts_cong n f g (λ i l. h i (omega arith))) (h n (omega arith))
 
-firsts_take : {A : Type 0} (l : List A) (d : A) (n : ℕ) → n ≤ length l → firsts n (λ i. get_or l i d) ≡ take n l
+pub firsts_take : {A : Type 0} (l : List A) (d : A) (n : ℕ) → n ≤ length l → firsts n (λ i. get_or l i d) ≡ take n l
 unfolding firsts
 firsts_take l d zero h = refl
 firsts_take l d (suc n) h = rw (firsts_take l d n (omega arith)) (sym (take-suc l n d h))

@@ -38,17 +38,6 @@ number_not_nine trailing = omega arith
 number_not_nine room = omega arith
 number_not_nine layout = omega arith
 
--- The number of an answer is 0 where the reading is done, and a cause's where it is refused.
--- `num` takes the number out of an answer, and `f` answers a reading.
-module _ {A X : Type 0} (num : X → ℕ) (f : Out A → X) (yes : (a : A) (t : List ℕ) → num (f (got a t)) ≡ 0) (no : (k : Cause) → num (f (refused k)) ≡ number k) where
-  pub was_refused : (o : Out A) (x : X) → x ≡ f o → (num x ≡ 0 → ⊥) → (k : Cause) × (o ≡ refused k) × (num x ≡ number k)
-  was_refused (got a t) x e h = absurd (h (ap num e ∙ yes a t))
-  was_refused (refused k) x e h = (k, refl, ap num e ∙ no k)
-
-  pub was_got : (o : Out A) (x : X) → x ≡ f o → num x ≡ 0 → (a : A) × (t : List ℕ) × (o ≡ got a t)
-  was_got (got a t) x e h = (a, t, refl)
-  was_got (refused k) x e h = absurd (omega (arith, number_some k, ap num e, no k))
-
 -- ---- one field
 
 pub byte_at : (s : List ℕ) (at : ℕ) → at < length s → byte (drop at s) ≡ got (get_or s at 0) (drop (at + 1) s)

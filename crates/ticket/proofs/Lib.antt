@@ -1,5 +1,6 @@
 -- The theorems of crate ticket, and the lemmas under them; specs/Lib says which answers what.
 pub mod Laws
+pub mod Refusals
 pub mod Width
 pub mod Signed
 pub mod Fields

@@ -1,4 +1,4 @@
--- Laws of the tests, of a refusal, and of what a struct holds in its first places. Assumes nothing.
+-- Laws of the tests, and of what a struct holds in its first places. Assumes nothing.
 use Prim.Native.Nat.{ℕ, zero, suc, ◌+◌, ◌≤◌, ◌<◌}
 use Rattle.std.specs.Prelude.{◌≡◌, refl, List, [], ◌∷◌, ◌++◌, leb, ltb, eqb, length, get_or, Bool, true, false, cond, ◌&&◌}
 use Rattle.std.proofs.Common.{sym, ap₂, ◌∙◌, add-one, length-append}
@@ -7,7 +7,7 @@ use Rattle.std.proofs.Math.Logic.{⊎_elim}
 use Rattle.std.proofs.Math.Nat.{le-suc_iff}
 use native.Mathlib.Omega.{arith}
 use borrow.Author.Tests.{le-leb, lt-leb, lt-ltb, le-ltb, eq-eqb, ne_eqb}
-use Rattle.ticket.specs.Parser.{Cause, horizon, events, owner, rules, layout, number, Out, got, refused, Parser, expect}
+use Rattle.ticket.specs.Parser.{Cause, horizon, events, owner, rules, layout, Out, got, refused, Parser, expect}
 use Rattle.std.proofs.Math.Bool.{and-false}
 use Rattle.temporal.proofs.Lists.{one_most, below_or_not, length_tab, get_d_tab, get_d_past, tab_cong, tab_set}
 use Rattle.temporal.specs.Lists.{tab}
@@ -17,28 +17,13 @@ use Rattle.ticket.specs.Format.{sound, sound_count, flag_counts}
 use Rattle.ticket.specs.Width.{Fixed}
 use Rattle.ticket.proofs.Width.{bind_fixed, expect_fixed, give_fixed}
 use Rattle.ticket.proofs.Fields.{rule_test_fixed}
-use Rattle.ticket.proofs.Laws.{number_some}
-use Rattle.ticket.specs.Writing.{firsts, owner_in, rule_in, tests, test_owner, test_rule, test_ticket, verdict, flag_in, window_in, count_in, test_window, flags_of, test_count, test_record, told, left}
+use Rattle.ticket.specs.Writing.{firsts, owner_in, rule_in, tests, test_owner, test_rule, test_ticket, flag_in, window_in, count_in, test_window, flags_of, test_count, test_record, left}
 use Rattle.ticket.specs.declared.Ticket.{Ticket}
 use Rattle.ticket.specs.declared.Record.{Record}
-use Rattle.ticket.specs.declared.Written.{Written}
 
--- A number that is not 0 is a cause's, and 0 says that the test is passed.
-pub verdict_refused : (o : Out (Unit {0})) (n : ℕ) → n ≡ verdict o → (n ≡ 0 → ⊥) → (k : Cause) × (o ≡ refused k) × (n ≡ number k)
-verdict_refused (got x s) n e h = absurd (h e)
-verdict_refused (refused k) n e h = (k, refl, e)
-
-pub verdict_passed : (p : Parser (Unit {0})) → Fixed 0 p → (s : List ℕ) (n : ℕ) → n ≡ verdict (p s) → n ≡ 0 → p s ≡ got tt s
-verdict_passed p f s n e h = go (p s) refl
-  where
-    go : (o : Out (Unit {0})) → p s ≡ o → p s ≡ got tt s
-    go (got x t) q = q ∙ ap (got tt) (f s x t q).0
-    go (refused k) q = absurd (omega (arith, number_some k, ap verdict q))
-
--- A refusal is told by its number, and leaves the output as it was.
-pub refusal : (out : List ℕ) (o : Out (List ℕ)) (n : ℕ) (k : Cause) → n ≡ number k → o ≡ refused k
-    → (◌≡◌ {A = Written} (record { number = n; length = 0 }) (told o)) × (out ≡ left out o)
-refusal out o n k en e = (rw en (ap told (sym e)), ap (left out) (sym e))
+-- A refusal leaves the output as it was.
+pub left_refused : (out : List ℕ) (o : Out (List ℕ)) (k : Cause) → o ≡ refused k → out ≡ left out o
+left_refused out o k e = ap (left out) (sym e)
 
 -- ---- one test
 

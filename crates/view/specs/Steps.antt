@@ -1,5 +1,5 @@
 -- What the code has answered and written at each of its returns. Rests on `viewing`'s View, on `causes` for what reading a record answers, and on Stored.
-use Rattle.std.specs.Prelude.{ℕ, ◌+◌, ◌*◌, ◌≤◌, ◌≡◌, true, List, ◌≢◌, length}
+use Rattle.std.specs.Prelude.{ℕ, ◌+◌, ◌*◌, ◌≤◌, ◌≡◌, true, List, length, Ok, Err}
 use Rattle.std.proofs.Common.{sym, ap, subst, ◌∙◌, arith}
 use Rattle.std.proofs.lemmas.List.Edits.{sets}
 use Rattle.temporal.specs.Ticket.{fits}
@@ -9,15 +9,17 @@ use Rattle.ticket.specs.Writer.{bytes, each}
 use Rattle.ticket.specs.Writing.{state_of}
 use Rattle.ticket.specs.Stored.{whole_record}
 use Rattle.ticket.specs.RoundTrip.{Bytes}
-use Rattle.ticket.specs.declared.ReadRecord.{ReadRecord}
+use Rattle.ticket.specs.Refusal.{number_of}
+use Rattle.ticket.proofs.Refusals.{refusal_number}
+use Rattle.ticket.specs.declared.Record.{Record}
+use Rattle.ticket.specs.declared.Refusal.{Refusal}
 use Rattle.writing.specs.Stores.{sets_over}
 use Rattle.causes.specs.Structs.{read_refused, read_got, read_state_lem}
 use Rattle.viewing.specs.View.{seen, write_seen, write_view, view, Outcome, refusing, viewed, after_reading, viewing}
 use Rattle.viewing.proofs.View.{viewing_read, viewed_fit}
 use Rattle.viewing.proofs.Laws.{length_view, view_fits}
-use Rattle.view.specs.Returned.{returned}
+use Rattle.view.specs.Returned.{Answer, returned}
 use Rattle.view.specs.Stored.{count_last}
-use Rattle.view.specs.declared.Answer.{Answer}
 
 -- a is what the outcome returns, and `out` its output
 abbrev pub Meets : Outcome → Answer → List ℕ → Type 0
@@ -45,13 +47,15 @@ view_written caller s ok out {out'} {k} room f c e =
 
 -- ---- reading
 
-module _ (bytes : List ℕ) (caller : ℕ) (out : List ℕ) (l : 402 ≤ length out) (m : caller ≤ 4) {x : ReadRecord} (e : x ≡ whole_record bytes) where
-  pub record_misread : {a : Answer} → x.number ≢ 0 → a ≡ record { number = x.number; length = 0 } → Meets (viewing bytes caller out) a out
-  record_misread n q =
-      let c = read_refused bytes e n in
-      meets_refused (viewing_read bytes caller out l m ∙ ap (after_reading caller out) c.1) (q ∙ ap (λ (r : ℕ). record { number = r; length = 0 }) c.2)
+module _ (bytes : List ℕ) (caller : ℕ) (out : List ℕ) (l : 402 ≤ length out) (m : caller ≤ 4) where
+  pub record_misread : {a : Answer} {e : Refusal} → Err e ≡ whole_record bytes → a ≡ record { number = number_of e; length = 0 } → Meets (viewing bytes caller out) a out
+  record_misread e q =
+      let c = read_refused bytes e in
+      meets_refused (viewing_read bytes caller out l m ∙ ap (after_reading caller out) c.1)
+      (q ∙ ap (λ (r : ℕ). record { number = r; length = 0 }) (ap number_of c.2 ∙ refusal_number c.0))
 
-  pub record_viewed : {a : Answer} {out' : List ℕ} (z : x.number ≡ 0) → Bytes bytes → Meets (viewed caller (state_of x.plan) out) a out' → Meets (viewing bytes caller out) a out'
-  record_viewed {a} {out'} z b h =
+  pub record_viewed : {r : Record} → Ok r ≡ whole_record bytes → Bytes bytes → {a : Answer} {out' : List ℕ} → Meets (viewed caller (state_of r) out) a out'
+      → Meets (viewing bytes caller out) a out'
+  record_viewed e b {a} {out'} h =
       subst (λ o. Meets o a out')
-      (ap (λ s. viewed caller s out) (read_state_lem bytes e z b) ∙ ap (after_reading caller out) (sym (read_got bytes e z).2) ∙ sym (viewing_read bytes caller out l m)) h
+      (ap (λ s. viewed caller s out) (read_state_lem bytes e b) ∙ ap (after_reading caller out) (sym (read_got bytes e).2) ∙ sym (viewing_read bytes caller out l m)) h

@@ -11,10 +11,10 @@ ghost use Rattle.ticket.specs.Writer.{each};
 ghost use Rattle.ticket.specs.Writing.{state_of};
 ghost use Rattle.causes.specs.Structs.{Canonical};
 ghost use Rattle.viewing.specs.View.{may_see, seen, write_seen, viewed, viewing};
-ghost use Rattle.view.specs.Returned.{returned};
+ghost use Rattle.view.specs.Returned.{returned, told};
 ghost use Rattle.view.specs.Stored.{seen_of, shown};
 
-use ticket::Record;
+use ticket::{Record, Refusal};
 
 // A view holds its count, of two bytes, and 40 events, of ten bytes each.
 pub const VIEW_BYTES: usize = 402;
@@ -74,67 +74,42 @@ fn put_events(r: Record, caller: u32, out: &mut [u8]) -> usize
     let t = r.ticket;
     let n = t.events;
     let mut k = 0;
-    let mut i = 0;
-    while i < n {
+    for i in 0..n {
         let owner = t.owners[i];
         let flag = r.flags[i];
         let opens = r.opens[i];
         let closes = r.closes[i];
         let event = (i + 1) as u8;
         k = show_event(out, k, may_see(caller, owner), event, flag, opens, closes);
-        i += 1;
     }
     k
 }
 
-// The number of the refusal, 0 when shown; the view's length, 0 when refused.
-#[derive(Drop)]
-pub struct Answer {
-    pub number: u32,
-    pub length: usize,
-}
-
-fn refusal(number: u32) -> Answer
-    ensures { result ≡ record { number = number; length = 0 } }
-{
-    Answer { number, length: 0 }
-}
-
-// What the caller sees of a record that was read, into the output.
-fn write_view(r: Record, caller: u32, out: &mut [u8]) -> Answer
+// What the caller sees of a record that was read, into the output. How many bytes it is.
+fn write_view(r: Record, caller: u32, out: &mut [u8]) -> Result<usize, Refusal>
     requires { Canonical r × (402 ≤ length out.old) }
-    ensures value { result ≡ returned (viewed caller (state_of r) out.old) }
+    ensures value { told result ≡ returned (viewed caller (state_of r) out.old) }
     ensures out_after { out.new ≡ (viewed caller (state_of r) out.old).out }
 {
-    let t = r.ticket;
-    let opens = r.opens;
-    let closes = r.closes;
-    if !fitness::fit(t, &opens, &closes) {
-        return refusal(15);
+    if !fitness::fit(r.ticket, &r.opens, &r.closes) {
+        return Err(Refusal::Unfit);
     }
     let k = put_events(r, caller, out);
     writing::put_u16(out, 0, k);
-    Answer {
-        number: 0,
-        length: 2 + 10 * k,
-    }
+    Ok(2 + 10 * k)
 }
 
-// What the caller sees of the record that the bytes hold: its events and their windows go into the output.
-pub fn view(record: &[u8], caller: u32, out: &mut [u8]) -> Answer
-    ensures value { result ≡ returned (viewing «record».now caller out.old) }
+// What the caller sees of the record that the bytes hold: its events and their windows go into the output. How many bytes they are.
+pub fn view(record: &[u8], caller: u32, out: &mut [u8]) -> Result<usize, Refusal>
+    ensures value { told result ≡ returned (viewing «record».now caller out.old) }
     ensures out_after { out.new ≡ (viewing «record».now caller out.old).out }
 {
     if out.len() < VIEW_BYTES {
-        return refusal(10);
+        return Err(Refusal::Room);
     }
     if DEVICES <= caller {
-        return refusal(19);
+        return Err(Refusal::Caller);
     }
-    let read = reading_records::read_record(record);
-    if read.number != 0 {
-        return refusal(read.number);
-    }
-    let r = read.plan;
+    let r = reading_records::read_record(record)?;
     write_view(r, caller, out)
 }

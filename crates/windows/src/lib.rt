@@ -1,5 +1,6 @@
 // Planning and commitment on a ticket's struct: the best windows, by a network of opens and closes.
 // Event i + 1 has the places i of the arrays. An edge is four numbers of the lent slice: tail, head, biased cost, flow.
+// The slice and the arrays are lent one by one: for a struct that held them each contract would have to say that its references are still those that were lent.
 // Rests on `ticket` for the struct, on `potentials` and `demands` for the network, on `schedule` for where to start, on `flow` for the widest windows, and on `fitness` for the law of their total.
 
 #![tactic(auto)]
@@ -27,10 +28,8 @@ pub fn weigh(n: usize, owners: &[u8; 40], weight: &mut [u32; 81])
     requires weighs { Weighs owners.now weight.old 0 }
     ensures { Weighs owners.now weight.new n }
 {
-    let mut i = 0;
-    while i < n {
+    for i in 0..n {
         weight[i + 1] = temporal::weight(owners[i]);
-        i += 1;
     }
 }
 
@@ -52,40 +51,39 @@ fn widest(net: &mut [u32], n: usize, m: usize, owners: &[u8; 40], pot: &mut [u32
 // From a potential within the boxes to the best windows within them.
 fn settle(
     net: &mut [u32],
-    t: ticket::Ticket,
+    t: &ticket::Ticket,
     low: &[u32; 81],
     high: &[u32; 81],
     pot: &mut [u32; 81],
     opens: &mut [u32; 40],
     closes: &mut [u32; 40],
 )
-    requires given { Given t }
-    requires workspace { Workspace t net.old opens.old closes.old }
-    requires starts_within { StartsWithin t (at low.now) (at high.now) pot.old }
-    ensures chosen { Chosen (content t) (Allowed t (at low.now) (at high.now)) (window_list t.events opens.new closes.new) }
-    ensures within { Within t.events opens.old opens.new × Within t.events closes.old closes.new }
+    requires given { Given t.now }
+    requires workspace { Workspace t.now net.old opens.old closes.old }
+    requires starts_within { StartsWithin t.now (at low.now) (at high.now) pot.old }
+    ensures chosen { Chosen (content t.now) (Allowed t.now (at low.now) (at high.now)) (window_list t.now.events opens.new closes.new) }
+    ensures within { Within t.now.events opens.old opens.new × Within t.now.events closes.old closes.new }
     ensures net_len_unchanged { length net.new ≡ length net.old }
 {
     let n = t.events;
-    let owners = t.owners;
-    demands::build(net, t, low, high);
-    widest(net, n, 5 * n + t.rules, &owners, pot);
+    demands::build(net, *t, low, high);
+    widest(net, n, 5 * n + t.rules, &t.owners, pot);
     potentials::read_windows(n, pot, opens, closes);
 }
 
 // From the times of a schedule to the windows of the plan.
 fn place(
     net: &mut [u32],
-    t: ticket::Ticket,
+    t: &ticket::Ticket,
     pot: &mut [u32; 81],
     opens: &mut [u32; 40],
     closes: &mut [u32; 40],
 )
-    requires given { Given t }
-    requires workspace { Workspace t net.old opens.old closes.old }
-    requires decided { Decided t pot.old true }
-    ensures chosen { Chosen (content t) (Allowed t (at (replicate 81 0)) (at (replicate 81 t.horizon))) (window_list t.events opens.new closes.new) }
-    ensures within { Within t.events opens.old opens.new × Within t.events closes.old closes.new }
+    requires given { Given t.now }
+    requires workspace { Workspace t.now net.old opens.old closes.old }
+    requires decided { Decided t.now pot.old true }
+    ensures chosen { Chosen (content t.now) (Allowed t.now (at (replicate 81 0)) (at (replicate 81 t.now.horizon))) (window_list t.now.events opens.new closes.new) }
+    ensures within { Within t.now.events opens.old opens.new × Within t.now.events closes.old closes.new }
     ensures net_len_unchanged { length net.new ≡ length net.old }
 {
     let low = [0u32; 81];
@@ -95,6 +93,7 @@ fn place(
 }
 
 // The windows of the plan; false where there is no schedule.
+#[tactic(auto, using(potentials::specs::Arrays::valid_given))]
 pub fn plan_windows(
     net: &mut [u32],
     t: ticket::Ticket,
@@ -107,27 +106,27 @@ pub fn plan_windows(
     ensures net_len_unchanged { length net.new ≡ length net.old }
 {
     let mut pot = [0u32; 81];
-    if schedule::schedule(net, t, &mut pot) {
-        place(net, t, &mut pot, opens, closes);
-        return true;
+    if !schedule::schedule(net, t, &mut pot) {
+        return false;
     }
-    false
+    place(net, &t, &mut pot, opens, closes);
+    true
 }
 
 // From fit windows to the best of those that keep the committed ones and contain the others.
 fn widen(
     net: &mut [u32],
-    t: ticket::Ticket,
+    t: &ticket::Ticket,
     flags: &[u8; 40],
     opens: &mut [u32; 40],
     closes: &mut [u32; 40],
 )
-    requires given { Given t }
-    requires workspace { Workspace t net.old opens.old closes.old }
-    requires ends { Ends (content t) (window_list t.events opens.old closes.old) }
-    ensures chosen { Chosen (content t) (Grows (content t) (flag_list t.events flags.now) (window_list t.events opens.old closes.old))
-        (window_list t.events opens.new closes.new) }
-    ensures within { Within t.events opens.old opens.new × Within t.events closes.old closes.new }
+    requires given { Given t.now }
+    requires workspace { Workspace t.now net.old opens.old closes.old }
+    requires ends { Ends (content t.now) (window_list t.now.events opens.old closes.old) }
+    ensures chosen { Chosen (content t.now) (Grows (content t.now) (flag_list t.now.events flags.now) (window_list t.now.events opens.old closes.old))
+        (window_list t.now.events opens.new closes.new) }
+    ensures within { Within t.now.events opens.old opens.new × Within t.now.events closes.old closes.new }
     ensures net_len_unchanged { length net.new ≡ length net.old }
 {
     let mut pot = [0u32; 81];
@@ -139,6 +138,7 @@ fn widen(
 }
 
 // Commit an event to the window from first to last, and widen the windows of the events that are not committed.
+#[tactic(auto, using(potentials::specs::Arrays::valid_given, crate::specs::Settle::asked_event))]
 pub fn commit_window(
     net: &mut [u32],
     t: ticket::Ticket,
@@ -158,5 +158,5 @@ pub fn commit_window(
     flags[i] = 1;
     opens[i] = first;
     closes[i] = last;
-    widen(net, t, flags, opens, closes);
+    widen(net, &t, flags, opens, closes);
 }

@@ -1,4 +1,3 @@
 -- What crate writing rests on. To believe the contract of `write_ticket` read Writing in crate ticket.
--- Rules says how a rule is taken out of arrays; Stores has the laws of the output.
-pub mod Rules
+-- Stores has the laws of the output.
 pub mod Stores

@@ -1,12 +1,21 @@
 -- Laws of stores in a row: what stands in the output after the parts of a ticket. Assumes nothing.
-use Rattle.std.specs.Prelude.{ℕ, suc, ◌+◌, ◌*◌, ◌≤◌, ◌≡◌, refl, List, [], ◌∷◌, ◌++◌, length, set, drop}
+use Rattle.std.specs.Prelude.{ℕ, suc, ◌+◌, ◌*◌, ◌/◌, ◌≤◌, ◌≡◌, refl, List, [], ◌∷◌, ◌++◌, length, set, drop}
 use Rattle.std.proofs.Common.{sym, ap, ◌∙◌, append_assoc, append-nil, add-zero, arith}
 use Rattle.std.proofs.lemmas.List.Edits.{sets, sets-eq}
+use Rattle.std.specs.Int.{w32, to_le_bytes}
 use Rattle.temporal.specs.Ticket.{Rule}
 use Rattle.ticket.specs.Writer.{bytes, each, write_rule, write_ticket}
 use Rattle.ticket.proofs.RoundTrip.{length_bytes, length_each, length_rule}
 use Rattle.ticket.specs.Writing.{firsts, over}
 use Rattle.ticket.proofs.WritingLaws.{firsts_more, length_firsts}
+
+-- The four bytes of a number.
+pub le_bytes : (x : ℕ) → to_le_bytes w32 x ≡ bytes 4 x
+unfolding bytes
+le_bytes x =
+    let two : x / 65536 ≡ x / 256 / 256 = omega arith in
+    let three : x / 16777216 ≡ x / 256 / 256 / 256 = omega arith in
+    rw (two, three)
 
 pub sets_append : (xs ys l : List ℕ) (i : ℕ) → sets l i (xs ++ ys) ≡ sets (sets l i xs) (i + length xs) ys
 sets_append [] ys l i = ap (λ k. sets l k ys) (sym (add-zero i))
@@ -20,13 +29,6 @@ unfolding over
 sets_over bs l h =
     let e : 0 + length bs ≡ length bs = omega arith in
     sets-eq bs l 0 (omega arith) ∙ ap (λ k. bs ++ drop k l) e
-
--- One store more.
-pub sets_more : (l : List ℕ) (at i : ℕ) (f : ℕ → ℕ) → sets l at (firsts (i + 1) f) ≡ set (sets l at (firsts i f)) (at + i) (f i)
-sets_more l at i f =
-    ap (sets l at) (firsts_more i f)
-    ∙ sets_append (firsts i f) (f i ∷ []) l at
-    ∙ ap (λ k. set (sets l at (firsts i f)) (at + k) (f i)) (length_firsts i f)
 
 pub each_append : {A : Type 0} (w : A → List ℕ) (xs ys : List A) → each w (xs ++ ys) ≡ each w xs ++ each w ys
 unfolding each

@@ -1,6 +1,6 @@
 -- `beyunlak::beyunlak_plan_latest` meets its contract: what `plan::plan_bytes` ensures, told as of 2,400 zeros. Assumes nothing.
 use Prim.Native.Nat.{ℕ}
-use mathlib.Core.Path.{sym}
+use mathlib.Core.Path.{sym, ◌∙◌}
 use native.Mathlib.Nat.{le_of_eq}
 use native.Mathlib.Omega.{arith}
 use lib.ListN.{replicate, length-replicate}
@@ -16,4 +16,4 @@ pub returns : goal.returns
 returns c =
     let told = latest_told c.args.out.now (replicate 2400 0) (omega arith) (le_of_eq (sym (length-replicate {A = ℕ} 2400 0))) c.args.ticket.now
     c.plan_bytes-latest.ensures in
-    record { value = told.0; out_after = told.1 }
+    record { value = c.answer_number.ensures ∙ told.0; out_after = told.1 }

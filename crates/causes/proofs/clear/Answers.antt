@@ -1,16 +1,12 @@
--- `causes::clear` meets its contract. The loop's invariant: the first i numbers are 0, and the rest is as it was. Assumes nothing.
-use mathlib.Core.Path.{ap, ◌∙◌}
-use native.Mathlib.Omega.{arith}
-use lib.ListN.{set}
-use Rattle.causes.specs.Zeroed.{zeroed_none, zeroed_more}
+-- `causes::clear` meets its contract: of the part that is filled, as many numbers as it has are 0. Assumes nothing.
+use Rattle.std.specs.Prelude.{◌≡◌, ◌++◌, drop, length, replicate, take}
+use Rattle.std.proofs.Common.{ap, ◌∙◌, arith}
+use Rattle.std.proofs.lemmas.List.{length-take}
+use Rattle.runs.specs.Calls.{zeroed}
 use Rattle.causes.proofs.clear.Goals as goal
 
-pub loop-i-init : goal.loop-i-init
-loop-i-init c = (omega arith, c.requires, zeroed_none _)
-
-pub loop-i-preserved : goal.loop-i-preserved
-loop-i-preserved c = (
-  omega arith,
-  c.loop-i.invariant.1,
-  ap (λ xs. set xs c.loop-i.i 0) c.loop-i.invariant.2 ∙ zeroed_more c.loop-i.i c.args.scratch.now (omega arith),
-)
+pub returns : goal.returns
+unfolding zeroed
+returns c = let s = c.args.scratch.now in
+    let all : length (take 2400 s) ≡ 2400 = omega (arith, length-take 2400 s) in
+    ap (λ xs. xs ++ drop 2400 s) (c.fill.ensures.after (λ y e. e) ∙ ap (λ k. replicate k 0) all)

@@ -12,4 +12,4 @@ returns-then-w-i-lt-LEAST c = let loop = c.loop-j in
     row_bad loop.j (omega arith) (omega arith) (omega (arith, floor_low c.args.i loop.j))
 
 pub returns : goal.returns
-returns c = row_good c.args.n c.args.i _ c.if-w-i-lt-BIAS.false (λ j l. c.loop-j.invariant.1 j (omega arith))
+returns c = row_good c.args.n c.args.i _ c.if-w-i-lt-BIAS.false (λ j l. c.loop-j.invariant j (omega arith))

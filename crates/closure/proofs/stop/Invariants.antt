@@ -1,5 +1,4 @@
--- What the loops of `closure::stop` keep, and what falls in each turn.
-use Prim.Native.Nat.{◌+◌, ◌-◌, ◌≤◌}
+-- What the loops of `closure::stop` keep.
 use mathlib.Core.Path.{◌≡◌}
 use lib.ListN.{length}
 use Rattle.closure.specs.Matrix.{entry}
@@ -7,7 +6,4 @@ use Rattle.closure.specs.Rows.{RowsRelaxed}
 use Rattle.closure.proofs.stop.Given as goal
 
 abbrev pub invariant-loop-i : goal.invariant-loop-i
-invariant-loop-i l = (l.i ≤ l.n + 1) × (length l.w ≡ 1681) × RowsRelaxed l.n l.k l.i (entry l.initial.w) (entry l.w)
-
-abbrev pub decreases-loop-i : goal.decreases-loop-i
-decreases-loop-i l = l.n + 1 - l.i
+invariant-loop-i l = (length l.w ≡ 1681) × RowsRelaxed l.n l.k l.i (entry l.initial.w) (entry l.w)

@@ -1,5 +1,4 @@
--- What the loops of `closure::take_stops` keep, and what falls in each turn.
-use Prim.Native.Nat.{◌-◌, ◌≤◌}
+-- What the loops of `closure::take_stops` keep.
 use mathlib.Core.Path.{◌≡◌}
 use lib.ListN.{length}
 use Rattle.closure.specs.Matrix.{entry}
@@ -7,7 +6,4 @@ use Rattle.closure.specs.Closing.{Closing}
 use Rattle.closure.proofs.take_stops.Given as goal
 
 abbrev pub invariant-loop-taken : goal.invariant-loop-taken
-invariant-loop-taken l = (l.taken ≤ l.count) × (length l.w ≡ 1681) × Closing l.n (entry l.initial.w) (entry l.w) l.taken
-
-abbrev pub decreases-loop-taken : goal.decreases-loop-taken
-decreases-loop-taken l = l.count - l.taken
+invariant-loop-taken l = (length l.w ≡ 1681) × Closing l.n (entry l.initial.w) (entry l.w) l.taken

@@ -4,5 +4,4 @@ use Rattle.closure.specs.Plain.{points_more}
 use Rattle.closure.proofs.unruled.Goals as goal
 
 pub loop-i-preserved : goal.loop-i-preserved
-loop-i-preserved c = let loop = c.loop-i in
-    (omega arith, points_more c.args.h loop.i loop.w (omega arith) loop.invariant.1)
+loop-i-preserved c = points_more c.args.h c.loop-i.i c.loop-i.w (omega arith) c.loop-i.invariant

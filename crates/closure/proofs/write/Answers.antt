@@ -4,4 +4,4 @@ use Rattle.closure.specs.Written.{writing_more}
 use Rattle.closure.proofs.write.Goals as goal
 
 pub loop-i-preserved : goal.loop-i-preserved
-loop-i-preserved c = (omega arith, writing_more (omega arith) c.loop-i.invariant.1 c.write_row.ensures)
+loop-i-preserved c = writing_more (omega arith) c.loop-i.invariant c.write_row.ensures

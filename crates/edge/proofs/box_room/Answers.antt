@@ -4,9 +4,4 @@ use Rattle.edge.specs.Headroom.{box_room_more}
 use Rattle.edge.proofs.box_room.Goals as goal
 
 pub loop-v-preserved : goal.loop-v-preserved
-loop-v-preserved c = let a = c.loop-v in
-    let more = c.loop-v-test.true in (
-      omega arith,
-      omega arith,
-      rw (c.least-best.ensures, c.slack.ensures) (box_room_more c.requires.network c.requires.potential a.invariant.2 a.invariant.0 more),
-    )
+loop-v-preserved c = rw (c.min-best.ensures, c.slack.ensures) (box_room_more c.args.edges.now.network c.requires.potential c.loop-v.invariant (omega arith) c.loop-v-test.true)

@@ -1,36 +1,38 @@
 -- `lift` meets its contract: node a is raised, and what follows from it; where that ends the lift, the potential is put back.
 use native.Mathlib.Omega.{arith}
 use Prim.Native.Nat.{ℕ, ◌≤◌, ◌<◌}
+use mathlib.Core.Path.{refl}
 use Rattle.network.specs.Stored.{at, pot_bound}
-use Rattle.lift.specs.Lift.{start_ready, spread_low, lift_held, lift_blocked}
+use Rattle.lift.specs.Lift.{start_ready, spread_low, lift_held, lift_ends}
 use Rattle.lift.proofs.lift.Goals as goal
 use Rattle.lift.proofs.lift.Goals.{Start}
 
 -- no node is high
-bound : (c : Start) → (v : ℕ) → v < c.args.nodes → at c.args.pot.now v ≤ 1000000
-bound c = pot_bound _ _ _ _ c.requires.network.0 c.requires.network.1
+bound : (c : Start) → (v : ℕ) → v < c.args.edges.now.nodes → at c.args.pot.now v ≤ 1000000
+bound c = pot_bound _ _ _ _ c.args.edges.now.network c.requires.potential
 
 pub overflow_add-pot : goal.overflow_add-pot
 overflow_add-pot c = omega (arith, bound (goal.at.overflow_add-pot c).Start c.args.b c.requires.a_lt_nodes.1)
 
-pub spread-r-requires : goal.spread-r-requires
-spread-r-requires c = let l = c.requires.a_lt_nodes in
-    let q = c.queue_of-queue.ensures in record {
-      network = (c.requires.network.0, start_ready c.requires.network.0 c.requires.network.1 l.0 l.1 l.2 l.3 c.if-a-b.false (bound (goal.at.spread-r-requires c).Start) _ q.0 q.1);
-      index = c.requires.index;
-    }
+pub spread-requires : goal.spread-requires
+spread-requires c =
+    let l = c.requires.a_lt_nodes in
+    rw c.new-queue.ensures
+    (start_ready c.args.edges.now.network c.requires.potential l.0 l.1 l.2 l.3 c.if-a-b.false (bound (goal.at.spread-requires c).Start))
 
-pub shift-requires : goal.shift-requires
-shift-requires c = let l = c.requires.a_lt_nodes in
-    let S = c.spread-r.ensures in record {
-      nodes_bound = omega (arith, c.requires.network.0.few);
-      pot_len = (S.long c.if-r-le-QUEUE.true, spread_low c.requires.network.0 c.requires.network.1 l.0 l.1 l.2 l.3 c.if-a-b.false (bound (goal.at.shift-requires c).Start) c.queue_of-queue.ensures.1 S c.if-r-le-QUEUE.true);
-    }
+pub shift-requires-clause-pot_len : goal.shift-requires-clause-pot_len
+shift-requires-clause-pot_len c =
+    let l = c.requires.a_lt_nodes in
+    let S = rw c.new-queue.ensures at c.in-Ok.ensures in
+    (S.long refl, spread_low c.args.edges.now.network c.requires.potential l.0 l.1 l.2 l.3 c.if-a-b.false (bound (goal.at.shift-requires-clause-pot_len c).Start) S)
 
-pub returns-then-r-le-QUEUE : goal.returns-then-r-le-QUEUE
-returns-then-r-le-QUEUE c = let l = c.requires.a_lt_nodes in
-    lift_held c.requires.network.0 c.requires.network.1 l.0 l.1 l.2 l.3 c.if-a-b.false (bound (goal.at.returns-then-r-le-QUEUE c).Start) c.queue_of-queue.ensures.1 c.spread-r.ensures c.if-r-le-QUEUE.true c.shift.ensures
+pub returns-in-Ok : goal.returns-in-Ok
+returns-in-Ok c =
+    let l = c.requires.a_lt_nodes in
+    let S = rw c.new-queue.ensures at c.in-Ok.ensures in
+    lift_held c.args.edges.now.network c.requires.potential l.0 l.1 l.2 l.3 c.if-a-b.false (bound (goal.at.returns-in-Ok c).Start) S c.shift.ensures
 
-pub returns-then-r-eq-RING : goal.returns-then-r-eq-RING
-returns-then-r-eq-RING c = let l = c.requires.a_lt_nodes in
-    lift_blocked c.requires.network.0 c.requires.network.1 l.0 l.1 l.2 l.3 c.if-a-b.false (bound (goal.at.returns-then-r-eq-RING c).Start) c.queue_of-queue.ensures.1 c.spread-r.ensures c.if-r-eq-RING.true
+pub returns-in-Err : goal.returns-in-Err
+returns-in-Err c =
+    let l = c.requires.a_lt_nodes in
+    lift_ends c.args.edges.now.network c.requires.potential l.0 l.1 l.2 l.3 c.if-a-b.false (bound (goal.at.returns-in-Err c).Start) (rw c.new-queue.ensures at c.in-Err.ensures)

@@ -4,7 +4,7 @@ use Rattle.lift.specs.Lift.{Going}
 use Rattle.lift.proofs.spread.Given as goal
 
 abbrev pub invariant-loop-s : goal.invariant-loop-s
-invariant-loop-s l = Going l.net l.m l.nodes l.b l.initial.pot l.initial.queue l.pot l.queue l.s l.t
+invariant-loop-s l = Going l.edges.net.now l.edges.m l.edges.nodes l.b l.initial.pot l.initial.queue l.pot l.queue l.s
 
 abbrev pub decreases-loop-s : goal.decreases-loop-s
 decreases-loop-s l = 400 - l.s

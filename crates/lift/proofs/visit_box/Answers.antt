@@ -3,7 +3,8 @@ use native.Mathlib.Omega.{arith}
 use Rattle.lift.specs.Lift.{visit_passes, box_head, box_only}
 use Rattle.lift.proofs.visit_box.Goals as goal
 
-pub returns : goal.returns
-returns c = let p = c.requires in
-    let h = box_head p.0 p.2 (omega arith) in
-    visit_passes p.0 p.1 h.0 h.1 p.2 c.visit.ensures (box_only p.0 p.2 (omega arith))
+pub returns-else-v-eq0 : goal.returns-else-v-eq0
+returns-else-v-eq0 c =
+    let N = c.args.edges.now.network in
+    let h = box_head N c.requires.1 (omega arith) in
+    visit_passes N c.requires.0 h.0 h.1 c.requires.1 c.visit.ensures (box_only N c.requires.1 (omega arith))

@@ -1,5 +1,4 @@
 -- The invariant: the numbers so far are stored after the count.
-use Prim.Native.Nat.{◌-◌, ◌≤◌}
 use mathlib.Core.Path.{◌≡◌}
 use lib.ListN.{length}
 use lib.Seq.{sets}
@@ -9,7 +8,4 @@ use Rattle.ticket.specs.Writing.{firsts}
 use Rattle.mend.proofs.put_numbers.Given as goal
 
 abbrev pub invariant-loop-i : goal.invariant-loop-i
-invariant-loop-i l = (l.i ≤ l.n) × (length l.list ≡ length l.initial.list) × (l.list ≡ sets l.initial.list 2 (each (bytes 2) (firsts l.i (at l.numbers))))
-
-abbrev pub decreases-loop-i : goal.decreases-loop-i
-decreases-loop-i l = l.n - l.i
+invariant-loop-i l = (length l.list ≡ length l.initial.list) × (l.list ≡ sets l.initial.list 2 (each (bytes 2) (firsts l.i (at l.numbers))))

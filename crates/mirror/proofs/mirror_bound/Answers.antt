@@ -1,43 +1,33 @@
--- `mirror_bound` meets its contract: the four cases of a rule's points and of its bound's sign.
-use mathlib.Core.Path.{◌≡◌, sym, ◌∙◌}
-use native.Mathlib.Omega.{arith}
-use lib.IntN.{pos}
-use mir.Syntax.{w32}
-use mir.Val.{to_z, of_z}
-use mir.ValLaws.{to_z_pos, to_z-of_z}
-use Rattle.mirror.proofs.Structs.{minus_fits, plus_fits, bound_from_start, bound_between, bound_cut, bound_to_start}
+-- `mirror_bound` meets its contract: the three cases of a rule's points.
+use Rattle.std.proofs.Common.{arith, pos, get_or}
+use Rattle.std.proofs.lemmas.Int.{ints, clamps}
+use Rattle.temporal.specs.Run.{ValidRule}
+use Rattle.ticket.specs.Writing.{rule_in}
+use Rattle.mirror.proofs.Structs.{bound_from_start, bound_between, bound_to_start, min_same, rule_valid}
 use Rattle.mirror.proofs.mirror_bound.Goals as goal
 use Rattle.mirror.proofs.mirror_bound.Goals.{Start}
 
--- the bits of the bound and of the horizon, read as signed
-bound_is : (c : Start) → to_z w32 (of_z w32 c.args.bound) ≡ c.args.bound
-bound_is c = to_z-of_z w32 c.args.bound c.ranges.bound
+valid : (c : Start) → ValidRule 255 (rule_in c.args.t.now c.args.j)
+valid c = rule_valid c.args.t.now c.requires.valid c.args.j c.requires.j_in_bounds
 
-horizon-is : (c : Start) → to_z w32 c.args.horizon ≡ pos c.args.horizon
-horizon-is c = to_z_pos w32 c.args.horizon (omega (arith, c.requires.horizon_bound))
+pub overflow_sub-result : goal.overflow_sub-result
+overflow_sub-result c = let v = valid (goal.at.overflow_sub-result c).Start in omega (arith, ints, c.requires.valid.horizon_limit)
 
-pub returns-then-from-eq0 : goal.returns-then-from-eq0
-returns-then-from-eq0 c = rw (
-  bound_is (goal.at.returns-then-from-eq0 c).Start,
-  horizon-is (goal.at.returns-then-from-eq0 c).Start,
-  to_z-of_z w32 _ (minus_fits c.args.horizon c.requires.horizon_bound c.args.bound c.requires.valid_rule.at_least c.requires.valid_rule.at_most),
-)
-    (sym (bound_from_start c.args.horizon c.args.from c.args.to c.args.bound c.if-from-eq0.true c.requires.valid_rule.differ))
+pub returns-in-0-default : goal.returns-in-0-default
+returns-in-0-default c =
+    let v = valid (goal.at.returns-in-0-default c).Start in
+    rw (bound_from_start _ _ _ (get_or c.args.t.now.bound c.args.j (pos 0)) c.in-0-default.is-0 v.differ) (omega (arith, ints, c.requires.valid.horizon_limit))
 
-pub returns-then-to-ne0 : goal.returns-then-to-ne0
-returns-then-to-ne0 c = rw (bound_is (goal.at.returns-then-to-ne0 c).Start)
-    (sym (bound_between c.args.horizon c.args.from c.args.to c.args.bound c.if-from-eq0.false c.if-to-ne0.true))
+pub overflow_add-t : goal.overflow_add-t
+overflow_add-t c = let v = valid (goal.at.overflow_add-t c).Start in omega (arith, ints, c.requires.valid.horizon_limit)
 
-pub returns-then-bound-ge0 : goal.returns-then-bound-ge0
-returns-then-bound-ge0 c = horizon-is (goal.at.returns-then-bound-ge0 c).Start
-    ∙ sym (bound_cut c.args.horizon c.args.from c.args.to c.args.bound c.if-from-eq0.false c.if-to-ne0.false
-    (rw (bound_is (goal.at.returns-then-bound-ge0 c).Start) at c.if-bound-ge0.true))
+pub returns-in_default-eq0 : goal.returns-in_default-eq0
+returns-in_default-eq0 c =
+    let v = valid (goal.at.returns-in_default-eq0 c).Start in
+    rw (bound_to_start _ _ _ (get_or c.args.t.now.bound c.args.j (pos 0)) c.in_default-eq0.is-0.1 c.in_default-eq0.is-1, ← min_same)
+    (omega (arith, ints, clamps, c.requires.valid.horizon_limit, c.min.ensures.value))
 
-pub returns : goal.returns
-returns c = rw (
-  bound_is (goal.at.returns c).Start,
-  horizon-is (goal.at.returns c).Start,
-  to_z-of_z w32 _ (plus_fits c.args.horizon c.requires.horizon_bound c.args.bound c.requires.valid_rule.at_least c.requires.valid_rule.at_most),
-)
-    (sym (bound_to_start c.args.horizon c.args.from c.args.to c.args.bound c.if-from-eq0.false c.if-to-ne0.false
-    (rw (bound_is (goal.at.returns c).Start) at c.if-bound-ge0.false)))
+pub returns-in_default : goal.returns-in_default
+returns-in_default c =
+    let v = valid (goal.at.returns-in_default c).Start in
+    rw (bound_between _ _ _ (get_or c.args.t.now.bound c.args.j (pos 0)) c.in_default.is-0.1 c.in_default.is-1.1) (omega (arith, ints))

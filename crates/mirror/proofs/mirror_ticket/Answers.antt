@@ -3,4 +3,4 @@ use Rattle.mirror.proofs.Structs.{mirrored_content}
 use Rattle.mirror.proofs.mirror_ticket.Goals as goal
 
 pub returns : goal.returns
-returns c = mirrored_content c.args.t c.mirror_bounds-bound.result c.mirror_bounds-bound.ensures
+returns c = mirrored_content c.args.t c.mirror_bounds.result c.mirror_bounds.ensures

@@ -1,41 +1,29 @@
--- `names::entry` meets its contract: each test that fails answers 0, and where all hold the answer is the length byte. Assumes nothing.
-use Prim.Native.Nat.{◌+◌}
-use mathlib.Core.Path.{sym, ap, ◌∙◌}
-use mathlib.Core.Bool.{cond}
-use native.Mathlib.Omega.{arith}
-use lib.ListN.{length-drop, drop, get_or}
-use Rattle.names.specs.Laws.{entry_past, entry_at, entry_not, named_none, named_long, named_short, named_letters}
+-- `names::entry` meets its contract: each test that fails answers None, and where all hold the answer is the length byte.
+use Rattle.std.proofs.Common.{◌≤◌, sym, ◌∙◌, arith}
+use Rattle.std.proofs.lemmas.Grind.{common_steps}
+use native.Mathlib.Nat.{sub-zero}
+use Rattle.names.specs.Laws.{Named, entry_none, entry_not, entry_letters}
 use Rattle.names.proofs.entry.Goals as goal
 
-pub returns-then-list-at : goal.returns-then-list-at
-returns-then-list-at c = let a = c.args in
-    sym (entry_past a.list.now a.at c.if-list-at.true)
+pub returns-in_err-n : goal.returns-in_err-n
+returns-in_err-n c = c.from_residual.ensures ∙ sym (entry_none c.args.bytes.now c.in_err-n.ensures.cases)
 
-pub returns-then-n-eq0 : goal.returns-then-n-eq0
-returns-then-n-eq0 c = let s = c.args.list.now in
-    let at = c.args.at in
-    sym (entry_not s at (named_none (get_or s at 0) (drop (at + 1) s) c.if-n-eq0.true) (omega arith))
+pub returns-then-not-contains : goal.returns-then-not-contains
+returns-then-not-contains c =
+    sym (entry_not c.in_ok-n.ensures.cases.0 (λ (f : Named c.in_ok-n.n.now c.in_ok-n.rest.now).
+    let l = f.least in
+    let m = f.most in
+    grind (arith, common_steps, c.from-n.ensures, c.new.ensures, c.if-not-contains.ensures.cases)))
 
-pub returns-then-n-gt16 : goal.returns-then-n-gt16
-returns-then-n-gt16 c = let s = c.args.list.now in
-    let at = c.args.at in
-    sym (entry_not s at (named_long (get_or s at 0) (drop (at + 1) s) c.if-n-gt16.true) (omega arith))
+pub returns-in_err-name : goal.returns-in_err-name
+returns-in_err-name c =
+    c.from_residual-in_err-name.ensures
+    ∙ sym (entry_not c.in_ok-n.ensures.cases.0 (λ (f : Named c.in_ok-n.n.now c.in_ok-n.rest.now). omega (arith, f.inside, c.in_err-name.ensures.lookup)))
 
-pub returns-then-list-at-2 : goal.returns-then-list-at-2
-returns-then-list-at-2 c = let s = c.args.list.now in
-    let at = c.args.at in
-    sym (entry_not s at (named_short (get_or s at 0) (drop (at + 1) s) (omega arith) (omega arith) (omega (arith, length-drop (at + 1) s))) (omega arith))
-
-pub returns-then-letters : goal.returns-then-letters
-returns-then-letters c = let s = c.args.list.now in
-    let at = c.args.at in
-    let n = get_or s at 0 in
-    let e = named_letters n (drop (at + 1) s) (omega arith) (omega arith) (omega (arith, length-drop (at + 1) s)) ∙ sym c.letters.ensures ∙ c.if-letters.true in
-    sym (entry_at s at (omega arith) ∙ ap (λ t. cond t n 0) e)
-
-pub returns-else-letters : goal.returns-else-letters
-returns-else-letters c = let s = c.args.list.now in
-    let at = c.args.at in
-    let n = get_or s at 0 in
-    let e = named_letters n (drop (at + 1) s) (omega arith) (omega arith) (omega (arith, length-drop (at + 1) s)) ∙ sym c.letters.ensures ∙ c.if-letters.false in
-    sym (entry_not s at e (omega arith))
+pub returns : goal.returns
+returns c =
+    let n = c.in_ok-n.n.now in
+    let name = c.in_ok-name.ensures.lookup.0 in
+    let low : 1 ≤ n = grind (arith, common_steps, c.from-n.ensures, c.new.ensures, c.if-not-contains.ensures.cases) in
+    let high : n ≤ 16 = grind (arith, common_steps, c.from-n.ensures, c.new.ensures, c.if-not-contains.ensures.cases) in
+    c.then_some.ensures ∙ rw (c.letters.ensures, name.2, c.from-n.ensures, sub-zero) (sym (entry_letters c.in_ok-n.ensures.cases.0 low high (omega arith)))

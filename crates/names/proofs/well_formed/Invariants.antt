@@ -1,12 +1,10 @@
--- What the loops of `names::well_formed` keep, and what falls in each turn.
-use Prim.Native.Nat.{◌-◌, ◌≤◌}
-use mathlib.Core.Path.{◌≡◌}
-use lib.ListN.{length, drop}
+-- What the loop of `names::well_formed` keeps: the names before `counter` are passed, so the answer is that of the rest.
+use Rattle.std.proofs.Common.{◌≡◌, ◌-◌, ◌≤◌, length, drop}
 use Rattle.names.specs.Names.{entries, well_formed}
 use Rattle.names.proofs.well_formed.Given as goal
 
-abbrev pub invariant-loop-k : goal.invariant-loop-k
-invariant-loop-k l = (l.k ≤ l.count) × (l.at ≤ length l.list) × (well_formed l.list l.count ≡ entries (l.count - l.k) (drop l.at l.list))
-
-abbrev pub decreases-loop-k : goal.decreases-loop-k
-decreases-loop-k l = l.count - l.k
+abbrev pub invariant-loop : goal.invariant-loop
+invariant-loop l = record {
+  inside : l.at ≤ length l.list;
+  answer : well_formed l.list l.count ≡ entries (l.count - l.counter) (drop l.at l.list);
+}

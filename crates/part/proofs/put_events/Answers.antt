@@ -1,5 +1,4 @@
 -- `put_events` meets its contract. The invariant: the events so far are stored after the count.
-use native.Mathlib.Omega.{arith}
 use Prim.Native.Nat.{◌+◌, ◌*◌}
 use mathlib.Core.Path.{refl, sym, ap, ◌∙◌}
 use lib.Seq.{sets}
@@ -11,17 +10,16 @@ use Rattle.part.proofs.put_events.Goals as goal
 
 pub loop-i-init : goal.loop-i-init
 unfolding firsts each
-loop-i-init c = (omega arith, refl, refl)
+loop-i-init c = (refl, refl)
 
 pub loop-i-preserved : goal.loop-i-preserved
 loop-i-preserved c = let a = c.args in
     let l = c.loop-i in
     let p = c.put_window in
     let f = numbered_in a.points.now a.opens.now a.closes.now in (
-      omega arith,
-      p.auto.out ∙ l.invariant.1,
+      p.auto.out ∙ l.invariant.0,
       p.ensures
           ∙ ap (sets _ (2 + 9 * l.i)) (numbered_bytes a.points.now a.opens.now a.closes.now l.i)
-          ∙ ap (λ o. sets o (2 + 9 * l.i) (write_numbered (f l.i))) l.invariant.2
+          ∙ ap (λ o. sets o (2 + 9 * l.i) (write_numbered (f l.i))) l.invariant.1
           ∙ sym (numbered_more a.out.now l.i f),
     )

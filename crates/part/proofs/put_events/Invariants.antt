@@ -1,5 +1,4 @@
 -- The invariant: the events so far are stored after the count.
-use Prim.Native.Nat.{◌-◌, ◌≤◌}
 use mathlib.Core.Path.{◌≡◌}
 use lib.ListN.{length}
 use lib.Seq.{sets}
@@ -10,7 +9,4 @@ use Rattle.part.specs.Stored.{numbered_in}
 use Rattle.part.proofs.put_events.Given as goal
 
 abbrev pub invariant-loop-i : goal.invariant-loop-i
-invariant-loop-i l = (l.i ≤ l.n) × (length l.out ≡ length l.initial.out) × (l.out ≡ sets l.initial.out 2 (each write_numbered (firsts l.i (numbered_in l.points l.opens l.closes))))
-
-abbrev pub decreases-loop-i : goal.decreases-loop-i
-decreases-loop-i l = l.n - l.i
+invariant-loop-i l = (length l.out ≡ length l.initial.out) × (l.out ≡ sets l.initial.out 2 (each write_numbered (firsts l.i (numbered_in l.points l.opens l.closes))))

@@ -15,7 +15,7 @@ boxes-requires c = record {
 
 pub returns : goal.returns
 returns c = let a = c.args in
-    let L = c.put_distances.ensures in
+    let L = c.put_all.ensures in
     let long = L.extends.long ∙ c.order.ensures.extends.long ∙ c.boxes.ensures.net_len_unchanged in
     let few = rules_most (bound_in a.points.now a.w.now) a.n (omega arith) in record {
       value = L.counted;

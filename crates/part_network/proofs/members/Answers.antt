@@ -6,11 +6,11 @@ use Rattle.part_network.specs.Points.{placed_none, placed_more}
 use Rattle.part_network.proofs.members.Goals as goal
 
 pub loop-i-init : goal.loop-i-init
-loop-i-init c = (omega arith, placed_none _ _ _ c.requires.1 c.requires.2)
+loop-i-init c = placed_none _ _ _ c.requires.1 c.requires.2
 
 pub add_member-m-requires : goal.add_member-m-requires
-add_member-m-requires c = let P = c.loop-i.invariant.1 in
+add_member-m-requires c = let P = c.loop-i.invariant in
     (P.long, omega (arith, P.few, length_firsts c.loop-i.i (at c.args.owners.now)))
 
 pub loop-i-preserved : goal.loop-i-preserved
-loop-i-preserved c = (omega arith, placed_more (at c.args.owners.now) c.loop-i.i (omega arith) c.loop-i.invariant.1 c.add_member-m.ensures)
+loop-i-preserved c = placed_more (at c.args.owners.now) c.loop-i.i (omega arith) c.loop-i.invariant c.add_member-m.ensures

@@ -2,7 +2,6 @@
 use native.Mathlib.Omega.{arith}
 use mathlib.Core.Path.{sym, subst, ◌∙◌}
 use lib.Dec.{T}
-use Rattle.network.specs.Lists.{differ}
 use Rattle.ticket.proofs.Content.{limits}
 use Rattle.potentials.specs.Arrays.{valid_given}
 use Rattle.schedule.specs.Schedule.{low_zeros}
@@ -20,10 +19,7 @@ schedule-requires c = let t = c.args.t in
     }
 
 pub returns-then-not-schedule : goal.returns-then-not-schedule
-returns-then-not-schedule c = let e = c.if-not-schedule.true in record {
-  found_value = sym e ∙ decided_tells c.args.t c.requires c.schedule.ensures.decided;
-  distances = λ q. differ (sym q);
-}
+returns-then-not-schedule c = sym (sym (c.if-not-schedule.true) ∙ decided_tells c.args.t c.requires c.schedule.ensures.decided)
 
 pub overflow_add-n : goal.overflow_add-n
 overflow_add-n c = omega (arith, (limits c.args.t c.requires).few)
@@ -42,7 +38,5 @@ pub returns : goal.returns
 returns c = let t = c.args.t in
     let D = entry c.first_entries-entries.result in
     let given = c.first_entries-entries.ensures in
-    let e = sym (c.if-not-schedule.false) ∙ decided_tells t c.requires c.schedule.ensures.decided in record {
-      found_value = e;
-      distances = λ q. stops_distances t c.requires (subst T e tt) D given.1 _ c.take_stops.ensures;
-    }
+    let e = sym (c.if-not-schedule.false) ∙ decided_tells t c.requires c.schedule.ensures.decided in
+    (sym e, stops_distances t c.requires (subst T e tt) D given.1 _ c.take_stops.ensures)

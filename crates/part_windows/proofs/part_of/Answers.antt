@@ -1,5 +1,5 @@
 -- `part_of` meets its contract, by those of its parts.
-use mathlib.Core.Path.{refl, ◌∙◌}
+use mathlib.Core.Path.{◌∙◌}
 use Rattle.part_windows.specs.Planned.{placed_given, part_few, part_lies, part_total_lem}
 use Rattle.part_windows.proofs.part_of.Goals as goal
 
@@ -15,7 +15,6 @@ returns c = let a = c.args in
     let P = placed_given a.t a.w.now p.0 p.1 c.members-events.ensures p.2 in
     let windows = c.plan_points.ensures in
     record {
-      found = refl;
       counted = P.counted;
       few = part_few P;
       places = P.places;

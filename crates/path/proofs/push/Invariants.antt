@@ -4,7 +4,7 @@ use Rattle.path.specs.Push.{Pushed}
 use Rattle.path.proofs.push.Given as goal
 
 abbrev pub invariant-loop-cur : goal.invariant-loop-cur
-invariant-loop-cur l = Pushed l.initial.net l.net l.m l.nodes l.stamp l.via l.root l.start l.f l.cur
+invariant-loop-cur l = Pushed l.initial.net l.net l.m l.nodes l.trail.stamp l.trail.via l.trail.root l.start l.f l.cur
 
 abbrev pub decreases-loop-cur : goal.decreases-loop-cur
-decreases-loop-cur l = get_or l.stamp l.cur 0
+decreases-loop-cur l = get_or l.trail.stamp l.cur 0

@@ -4,7 +4,7 @@ use Rattle.path.specs.Way.{Roaming}
 use Rattle.path.proofs.room.Given as goal
 
 abbrev pub invariant-loop-cur : goal.invariant-loop-cur
-invariant-loop-cur l = Roaming l.net l.nodes l.stamp l.via l.start l.want l.f l.cur
+invariant-loop-cur l = Roaming l.net l.nodes l.trail.stamp l.trail.via l.start l.want l.f l.cur
 
 abbrev pub decreases-loop-cur : goal.decreases-loop-cur
-decreases-loop-cur l = get_or l.stamp l.cur 0
+decreases-loop-cur l = get_or l.trail.stamp l.cur 0

@@ -13,14 +13,14 @@ commit_window-requires c =
     record { workspace = asked.0; asked = asked.1 }
 
 -- the caller is a device, and its count can rise
-pub bounds-counts-caller : goal.bounds-counts-caller
-bounds-counts-caller c = (caller_counted c.args.r c.requires.canonical.0 c.args.caller c.args.event c.args.opens c.args.closes c.requires.canonical.1).0
+pub bounds-next-caller : goal.bounds-next-caller
+bounds-next-caller c = (caller_counted c.args.r c.requires.canonical.0 c.args.caller c.args.event c.args.opens c.args.closes c.requires.canonical.1).0
 
-pub overflow_add-counts : goal.overflow_add-counts
-overflow_add-counts c = omega (arith, (caller_counted c.args.r c.requires.canonical.0 c.args.caller c.args.event c.args.opens c.args.closes c.requires.canonical.1).1)
+pub overflow_add-next : goal.overflow_add-next
+overflow_add-next c = omega (arith, (caller_counted c.args.r c.requires.canonical.0 c.args.caller c.args.event c.args.opens c.args.closes c.requires.canonical.1).1)
 
-pub bounds-counts-caller-2 : goal.bounds-counts-caller-2
-bounds-counts-caller-2 c = (caller_counted c.args.r c.requires.canonical.0 c.args.caller c.args.event c.args.opens c.args.closes c.requires.canonical.1).0
+pub bounds-next-caller-2 : goal.bounds-next-caller-2
+bounds-next-caller-2 c = (caller_counted c.args.r c.requires.canonical.0 c.args.caller c.args.event c.args.opens c.args.closes c.requires.canonical.1).0
 
 pub returns : goal.returns
 returns c = record {

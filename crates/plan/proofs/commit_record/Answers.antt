@@ -1,12 +1,15 @@
 -- `plan::commit_record` meets its contract: the first cause, or the record with the event committed. Assumes nothing.
-use mathlib.Core.Path.{refl}
+use Rattle.std.proofs.Common.{refl, ap, arith}
 use Rattle.temporal.specs.Plan.{asking}
 use Rattle.ticket.specs.Writing.{state_of}
+use Rattle.ticket.proofs.Refusals.{number_positive, passed_on}
+use Rattle.plan.specs.Returned.{told}
 use Rattle.plan.specs.Steps.{commit_refused}
 use Rattle.plan.specs.Meets.{meets_refused}
 use Rattle.plan.proofs.commit_record.Goals as goal
 
-pub returns-then-refused-ne0 : goal.returns-then-refused-ne0
-returns-then-refused-ne0 c = meets_refused c.args.out.now (commit_refused (state_of c.args.r)
-    (asking c.args.caller c.args.event c.args.opens c.args.closes) c.cause-refused.ensures c.if-refused-ne0.true)
-    c.refusal.ensures refl
+pub returns-in_err-cause : goal.returns-in_err-cause
+returns-in_err-cause c = let a = c.args in
+    meets_refused a.out.now (commit_refused (state_of a.r) (asking a.caller a.event a.opens a.closes) c.in_err-cause.ensures
+    (λ z. omega (arith, number_positive c.in_err-cause.field-0.0, z)))
+    (ap told (passed_on c.from_residual.result c.from_residual.ensures.1)) refl

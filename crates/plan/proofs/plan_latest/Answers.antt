@@ -1,4 +1,5 @@
 -- `plan::plan_latest` meets its contract, as `plan::plan` does: 10 first, then what was read and decided, then the scratch is cleared. Assumes nothing.
+use Rattle.std.proofs.Common.{refl}
 use Rattle.temporal.specs.Plan.{plan_latest}
 use Rattle.ticket.specs.Parser.{wholly}
 use Rattle.ticket.specs.Format.{read_ticket}
@@ -12,7 +13,7 @@ pub returns-then-short : goal.returns-then-short
 returns-then-short c =
     let s = c.args in
     let whole = whole_short s.out.now s.scratch.now (planning_latest_short s.ticket.now s.out.now s.scratch.now
-    (short_room s.out.now s.scratch.now c.short.ensures c.if-short.true)) c.refusal.ensures in
+    (short_room s.out.now s.scratch.now c.short.ensures c.if-short.true)) refl in
     record { value = whole.0; out_after = whole.1.0; scratch_after = whole.1.1 }
 
 pub returns : goal.returns

@@ -1,8 +1,10 @@
 -- `plan::plan_ticket` meets its contract: `windows` decides, and the record is written. Assumes nothing.
-use mathlib.Core.Path.{refl, ◌∙◌}
+use Rattle.std.specs.Prelude.{refl, Ok}
+use Rattle.std.proofs.Common.{ap, ◌∙◌}
 use native.Mathlib.Omega.{arith}
 use lib.Seq.{length-take-le}
 use Rattle.causes.specs.Zeroed.{past_part}
+use Rattle.plan.specs.Returned.{told}
 use Rattle.plan.specs.Steps.{plan_asked, planned_none, planned_some, canonical_planned}
 use Rattle.plan.specs.Meets.{meets_refused, meets_accepted}
 use Rattle.plan.proofs.plan_ticket.Goals as goal
@@ -14,7 +16,7 @@ plan_windows-found-requires c =
 
 pub returns-then-not-found : goal.returns-then-not-found
 returns-then-not-found c = meets_refused c.args.out.now (planned_none c.plan_windows-found.ensures.planned_for c.if-not-found.true)
-    c.refusal.ensures
+    refl
     (past_part 2400 1824 c.args.scratch.now c.plan_windows-found.new.net (omega arith)
     (c.plan_windows-found.ensures.net_len_unchanged ∙ length-take-le 1824 c.args.scratch.now (omega (arith, c.requires.in_bounds))))
 
@@ -23,6 +25,6 @@ write_out-requires c = (canonical_planned c.plan_windows-found.ensures.planned_f
 
 pub returns : goal.returns
 returns c = meets_accepted c.args.out.now (planned_some c.plan_windows-found.ensures.planned_for c.if-not-found.false)
-    c.write_out.ensures.value c.write_out.ensures.out_after
+    (ap (λ x. told (Ok x)) c.write_out.ensures.value) c.write_out.ensures.out_after
     (past_part 2400 1824 c.args.scratch.now c.plan_windows-found.new.net (omega arith)
     (c.plan_windows-found.ensures.net_len_unchanged ∙ length-take-le 1824 c.args.scratch.now (omega (arith, c.requires.in_bounds))))

@@ -17,6 +17,6 @@ put_record-length-requires c = record {
 pub returns : goal.returns
 unfolding window_list
 returns c = let x = c.total-total.ensures in record {
-  value = λ i. record { number = 0; length = c.put_record-length.ensures.value i; total = x i };
+  value = λ i. record { length = c.put_record-length.ensures.value i; total = x i };
   out_after = c.put_record-length.ensures.out_after;
 }

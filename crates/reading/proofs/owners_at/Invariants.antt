@@ -11,11 +11,7 @@ use Rattle.reading.proofs.owners_at.Given as goal
 
 abbrev pub invariant-loop-i : goal.invariant-loop-i
 invariant-loop-i l = (xs : List ℕ)
-    × (l.i ≤ l.n)
     × (l.at + l.i ≤ length l.s)
     × (length xs ≡ l.i)
     × (l.owners ≡ pad 0 40 xs)
     × (many read_owner l.n (drop l.at l.s) ≡ after xs (many read_owner (l.n - l.i) (drop (l.at + l.i) l.s)))
-
-abbrev pub decreases-loop-i : goal.decreases-loop-i
-decreases-loop-i l = l.n - l.i

@@ -12,13 +12,9 @@ use Rattle.reading.proofs.rules_at.Given as goal
 
 abbrev pub invariant-loop-i : goal.invariant-loop-i
 invariant-loop-i l = (rs : List Rule)
-    × (l.i ≤ l.m)
     × (l.at + 6 * l.i ≤ length l.s)
     × (length rs ≡ l.i)
-    × (l.from ≡ (rules_of 0 rs).from)
-    × (l.to ≡ (rules_of 0 rs).to)
-    × (l.bound ≡ (rules_of 0 rs).bound)
+    × (l.from ≡ (rules_of rs).from)
+    × (l.to ≡ (rules_of rs).to)
+    × (l.bound ≡ (rules_of rs).bound)
     × (many (read_rule l.n) l.m (drop l.at l.s) ≡ after rs (many (read_rule l.n) (l.m - l.i) (drop (l.at + 6 * l.i) l.s)))
-
-abbrev pub decreases-loop-i : goal.decreases-loop-i
-decreases-loop-i l = l.m - l.i

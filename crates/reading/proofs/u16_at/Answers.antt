@@ -5,4 +5,4 @@ use Rattle.reading.proofs.u16_at.Goals as goal
 
 pub returns : goal.returns
 returns c = let a = c.args in
-    little2_at a.s.now a.at _ (omega arith) (omega arith)
+    little2_at a.s.now a.at _ (omega arith) (omega (arith, c.from.ensures, c.from_le_bytes.ensures))

@@ -5,4 +5,4 @@ use Rattle.reading.proofs.u32_at.Goals as goal
 
 pub returns : goal.returns
 returns c = let a = c.args in
-    little4_at a.s.now a.at _ (omega arith) c.word.ensures
+    little4_at a.s.now a.at _ (omega arith) (omega (arith, c.from_le_bytes.ensures))

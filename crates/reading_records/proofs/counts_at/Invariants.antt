@@ -1,5 +1,5 @@
 -- What `counts_at` keeps true: what was read so far stands before what is left to read.
-use Prim.Native.Nat.{ℕ, ◌+◌, ◌*◌, ◌-◌, ◌≤◌}
+use Prim.Native.Nat.{ℕ, ◌+◌, ◌*◌, ◌≤◌}
 use mathlib.Core.Path.{◌≡◌}
 use mathlib.Core.List.{List}
 use lib.ListN.{length, drop}
@@ -10,11 +10,7 @@ use Rattle.reading_records.proofs.counts_at.Given as goal
 
 abbrev pub invariant-loop-o : goal.invariant-loop-o
 invariant-loop-o l = (ks : List ℕ)
-    × (l.o ≤ 5)
     × (l.at + 2 * l.o ≤ length l.s)
     × (length ks ≡ l.o)
     × (l.counts ≡ pad 0 5 ks)
     × (each_count l.xs (drop l.at l.s) ≡ after ks (each_count (drop l.o l.xs) (drop (l.at + 2 * l.o) l.s)))
-
-abbrev pub decreases-loop-o : goal.decreases-loop-o
-decreases-loop-o l = 5 - l.o

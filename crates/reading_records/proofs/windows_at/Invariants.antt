@@ -11,13 +11,9 @@ use Rattle.reading_records.proofs.windows_at.Given as goal
 
 abbrev pub invariant-loop-i : goal.invariant-loop-i
 invariant-loop-i l = (es : List Entry)
-    × (l.i ≤ l.n)
     × (l.at + 9 * l.i ≤ length l.s)
     × (length es ≡ l.i)
-    × (l.flags ≡ (windows_of 0 es).flags)
-    × (l.opens ≡ (windows_of 0 es).opens)
-    × (l.closes ≡ (windows_of 0 es).closes)
+    × (l.flags ≡ (windows_of es).flags)
+    × (l.opens ≡ (windows_of es).opens)
+    × (l.closes ≡ (windows_of es).closes)
     × (many (read_window l.h) l.n (drop l.at l.s) ≡ after es (many (read_window l.h) (l.n - l.i) (drop (l.at + 9 * l.i) l.s)))
-
-abbrev pub decreases-loop-i : goal.decreases-loop-i
-decreases-loop-i l = l.n - l.i

@@ -1,5 +1,5 @@
 -- `reason::explain` meets its contract: the lists are tested, the ring is sought, and its text is put into the output. Assumes nothing.
-use mathlib.Core.Path.{◌≡◌, sym, ap, ◌∙◌}
+use mathlib.Core.Path.{◌≡◌, refl, sym, ap, ◌∙◌}
 use mathlib.Core.Bool.{true}
 use native.Mathlib.Omega.{arith}
 use Rattle.temporal.specs.Ticket.{events}
@@ -21,7 +21,7 @@ pub returns-then-not-well_formed : goal.returns-then-not-well_formed
 returns-then-not-well_formed c =
     let a = c.args in
     let whole = meets_refused (unlisted_labels (content a.t) a.labels.now a.roster.now a.out.now
-    (ap (well_formed a.labels.now) (in_events a.t) ∙ sym c.well_formed-2.ensures ∙ c.if-not-well_formed.true)) c.refusal.ensures in
+    (ap (well_formed a.labels.now) (in_events a.t) ∙ sym c.well_formed-2.ensures ∙ c.if-not-well_formed.true)) refl in
     record { value = whole.0; out_after = whole.1 }
 
 pub returns-then-not-well_formed-2 : goal.returns-then-not-well_formed-2
@@ -29,14 +29,14 @@ returns-then-not-well_formed-2 c =
     let a = c.args in
     let whole = meets_refused (unlisted_roster (content a.t) a.labels.now a.roster.now a.out.now
     (ap (well_formed a.labels.now) (in_events a.t) ∙ sym c.well_formed-2.ensures ∙ c.if-not-well_formed.false)
-    (sym c.well_formed-3.ensures ∙ c.if-not-well_formed-2.true)) c.refusal-then-not-well_formed-2.ensures in
+    (sym c.well_formed-3.ensures ∙ c.if-not-well_formed-2.true)) refl in
     record { value = whole.0; out_after = whole.1 }
 
-pub returns-then-count-eq0 : goal.returns-then-count-eq0
-returns-then-count-eq0 c =
+pub returns-in_default : goal.returns-in_default
+returns-in_default c =
     let a = c.args in
-    let whole = meets_refused (found_none (content a.t) c.requires.0 a.labels.now a.roster.now (labelled (goal.at.returns-then-count-eq0 c).Else-not-well_formed-2) (known (goal.at.returns-then-count-eq0 c).Else-not-well_formed-2) c.ring-found.ensures
-    a.out.now c.if-count-eq0.true) c.refusal-then-count-eq0.ensures in
+    let whole = meets_refused (found_none (content a.t) c.requires.0 a.labels.now a.roster.now (labelled (goal.at.returns-in_default c).Else-not-well_formed-2) (known (goal.at.returns-in_default c).Else-not-well_formed-2)
+    a.out.now c.in_default.ensures) refl in
     record { value = whole.0; out_after = whole.1 }
 
 pub put_ring-length-requires : goal.put_ring-length-requires
@@ -45,12 +45,12 @@ put_ring-length-requires c = let a = c.args in
     let v = c.requires.0 in
     let l = labelled (goal.at.put_ring-length-requires c).Else-not-well_formed-2 in
     let r = known (goal.at.put_ring-length-requires c).Else-not-well_formed-2 in
-    let e = c.ring-found.ensures in record {
+    let e = c.in-Some.ensures in record {
       valid = v;
       ring_len = (
         found_long k v a.labels.now a.roster.now l r e,
         found_most k v a.labels.now a.roster.now l r e,
-        found_numbers k v a.labels.now a.roster.now l r e c.if-count-eq0.false,
+        found_numbers k v a.labels.now a.roster.now l r e,
       );
       t_value = (l, r);
       in_bounds = c.requires.1;
@@ -58,12 +58,12 @@ put_ring-length-requires c = let a = c.args in
 
 pub overflow_cast-result : goal.overflow_cast-result
 overflow_cast-result c = let a = c.args in
-    let n = found_fits (content a.t) c.requires.0 a.labels.now a.roster.now (labelled (goal.at.overflow_cast-result c).Else-not-well_formed-2) (known (goal.at.overflow_cast-result c).Else-not-well_formed-2) c.ring-found.ensures c.if-count-eq0.false in
+    let n = found_fits (content a.t) c.requires.0 a.labels.now a.roster.now (labelled (goal.at.overflow_cast-result c).Else-not-well_formed-2) (known (goal.at.overflow_cast-result c).Else-not-well_formed-2) c.in-Some.ensures in
     record { fits = omega (arith, n, c.put_ring-length.ensures.end) }
 
 pub returns : goal.returns
 returns c =
     let a = c.args in
-    let whole = found_printed (content a.t) c.requires.0 a.labels.now a.roster.now (labelled (goal.at.returns c).Else-not-well_formed-2) (known (goal.at.returns c).Else-not-well_formed-2) c.ring-found.ensures c.if-count-eq0.false
+    let whole = found_printed (content a.t) c.requires.0 a.labels.now a.roster.now (labelled (goal.at.returns c).Else-not-well_formed-2) (known (goal.at.returns c).Else-not-well_formed-2) c.in-Some.ensures
     c.requires.1 c.put_ring-length.ensures in
     record { value = whole.0; out_after = whole.1 }

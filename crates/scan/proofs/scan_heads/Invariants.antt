@@ -3,7 +3,7 @@ use Rattle.scan.specs.Sweep.{Sweep}
 use Rattle.scan.proofs.scan_heads.Given as goal
 
 abbrev pub invariant-loop-x : goal.invariant-loop-x
-invariant-loop-x l = Sweep l.net l.m l.nodes l.pot l.initial.stamp l.initial.dist l.initial.order l.t l.stamp l.via l.dist l.order l.key l.root l.r l.s l.d l.w 1 l.x
+invariant-loop-x l = Sweep l.net l.m l.nodes l.pot l.initial.trail l.trail l.w 1 l.x
 
 abbrev pub decreases-loop-x : goal.decreases-loop-x
 decreases-loop-x l = l.x

@@ -2,7 +2,7 @@
 use native.Mathlib.Omega.{arith}
 use mir.Syntax.{w32}
 use mir.ValLaws.{to_z-of_z}
-use Rattle.demands.specs.Rules.{biased_most}
+use Rattle.demands.specs.Cost.{biased_most, bound_fits}
 use Rattle.schedule.proofs.admit_rule.Goals as goal
 
 pub admit-requires : goal.admit-requires
@@ -13,8 +13,8 @@ admit-requires c = let small = c.requires.small_rule in record {
     room = omega arith;
     by_tail = omega arith;
     by_head = omega arith;
-    tail = omega (arith, c.wide.ensures, small.from_point);
-    head = omega (arith, c.wide-2.ensures, small.to_point);
-    cost = rw (c.cost.ensures, to_z-of_z w32 c.args.bound c.ranges.bound) (biased_most c.args.bound small.high);
+    tail = omega (arith, small.from_point);
+    head = omega (arith, small.to_point);
+    cost = rw (c.cost.ensures, to_z-of_z w32 _ (bound_fits _ small.high small.deep)) (biased_most _ small.high);
   };
 }

@@ -1,20 +1,13 @@
 -- `raise` meets its contract.
 use native.Mathlib.Omega.{arith}
 use Prim.Native.Nat.{◌≤◌}
-use mir.Syntax.{w32}
-use mir.ValLaws.{to_z-of_z}
-use Rattle.demands.specs.Rules.{biased_most}
+use Rattle.demands.specs.Cost.{biased_most}
+use Rattle.demands.specs.Rules.{given_bound}
 use Rattle.schedule.proofs.raise.Goals as goal
-use Rattle.schedule.proofs.raise.Goals.{After-cost-c, After-wide, After-wide-a}
-
-tail-most : (c : After-wide-a) → c.wide-a.result ≤ c.args.n
-tail-most c = omega (arith, c.wide-a.ensures, c.requires.small_rule.from_point)
-
-head-most : (c : After-wide) → c.wide.result ≤ c.args.n
-head-most c = omega (arith, c.wide.ensures, c.requires.small_rule.to_point)
-
-cost_most : (c : After-cost-c) → c.cost-c.result ≤ 2000000
-cost_most c = rw (c.cost-c.ensures, to_z-of_z w32 c.args.bound c.ranges.bound) (biased_most c.args.bound c.requires.small_rule.high)
 
 pub overflow_add-times : goal.overflow_add-times
-overflow_add-times c = omega (arith, c.requires.low.most c.wide-a.result (tail-most (goal.at.overflow_add-times c).After-wide-a), cost_most (goal.at.overflow_add-times c).After-cost-c)
+overflow_add-times c = let G = c.requires.given in
+    let l = c.requires.j_in_bounds in
+    let cost_most : c.cost-cost.result ≤ 2000000 = rw (c.cost-cost.ensures, given_bound G c.args.j l) (biased_most _ (G.high c.args.j l)) in
+    let top = G.top in
+    omega (arith, c.requires.low.most c.from-from.result (omega (arith, G.from_point c.args.j l)))

@@ -1,12 +1,14 @@
 -- `relax` meets its contract. The invariants: the times stay within the horizon and the rules from `kept` on hold; inside, the laws of Rounds.
-use native.Mathlib.Omega.{arith}
-use Prim.Native.Nat.{◌<◌}
-use Rattle.demands.specs.Rules.{given_bound}
-use Rattle.schedule.specs.Relax.{rounds_held}
+use mathlib.Core.Path.{◌≡◌}
+use Rattle.schedule.specs.Relax.{rounds_held, rounds_raised}
 use Rattle.schedule.proofs.relax.Goals as goal
+use Rattle.schedule.proofs.relax.Goals.{else-last-eq0-via-then-last-eq0+else-j-kept, else-last-eq0-via-else-last-eq0, in-Kept, in-Raised}
 
 pub loop-j-preserved : goal.loop-j-preserved
-loop-j-preserved c = let G = c.requires.given in
-    let j = c.loop-j.j in
-    let lj : j < c.args.t.rules = omega (arith, c.loop-j.invariant.few) in
-    rounds_held c.loop-j.invariant (omega arith) (rw (given_bound G j lj) at c.raise-k.ensures.raised) c.if-k-ne0.false
+loop-j-preserved c = let j = c.loop-j.j in
+    let R = c.loop-j.invariant in
+    let more : c.loop-j.last ≡ 0 → j ≡ c.loop.kept → ⊥ = λ e q. elim c.else-last-eq0.branch [ else-last-eq0-via-then-last-eq0+else-j-kept w ↦ w.if-j-kept.false q | else-last-eq0-via-else-last-eq0 w ↦ w.if-last-eq0.false e ] in
+    elim c.match-raise.branch [
+      | in-Kept w ↦ rw (w.last-is) (rounds_held R more c.raise.ensures.raised w.in-Kept.is)
+      | in-Raised w ↦ rw (w.last-is) (rounds_raised R c.raise.ensures.low_2)
+    ]

@@ -4,7 +4,7 @@ use Rattle.search.specs.Reach.{Searching}
 use Rattle.search.proofs.explore.Given as goal
 
 abbrev pub invariant-loop-seen : goal.invariant-loop-seen
-invariant-loop-seen l = Searching l.net l.m l.nodes l.pot l.stamp l.via l.dist l.order l.key l.root l.goal l.t l.seen l.s l.d
+invariant-loop-seen l = Searching l.net l.m l.nodes l.pot l.trail l.root l.goal l.seen
 
 abbrev pub decreases-loop-seen : goal.decreases-loop-seen
-decreases-loop-seen l = 2 * l.nodes - (l.t + l.s)
+decreases-loop-seen l = 2 * l.nodes - (l.trail.reached + l.trail.scanned)

@@ -1,10 +1,6 @@
 -- `raise` meets its contract. The invariant: the nodes passed have moved, and the others are as they were.
-use Prim.Native.Nat.{◌≤◌, ◌-◌}
 use Rattle.search.specs.Raise.{Lifted}
 use Rattle.search.proofs.raise.Given as goal
 
 abbrev pub invariant-loop-v : goal.invariant-loop-v
-invariant-loop-v l = (l.v ≤ l.nodes) × Lifted l.initial.pot l.pot l.dist l.d l.v
-
-abbrev pub decreases-loop-v : goal.decreases-loop-v
-decreases-loop-v l = l.nodes - l.v
+invariant-loop-v l = Lifted l.initial.pot l.pot l.dist l.d l.v

@@ -16,6 +16,7 @@ boxes-requires c = let G = valid_given c.args.t c.requires in record {
 pub select-requires : goal.select-requires
 select-requires c = let G = valid_given c.args.t c.requires in
     let room : 81 + c.args.t.rules ≤ length (replicate {A = ℕ} 400 0) = omega (arith, G.most, length-replicate {A = ℕ} 400 0) in record {
+      given = G;
       valid = (c.requires, omega (arith, G.few, G.most, c.boxes.ensures.net_len_unchanged, length-replicate {A = ℕ} 1344 0));
       tried = boxes_tried c.args.t c.requires (omega (arith, G.few, c.boxes.ensures.net_len_unchanged, length-replicate {A = ℕ} 1344 0)) c.boxes.ensures.boxes;
       rules_in_bounds = (room, room);

@@ -18,12 +18,12 @@ has : (c : Else-not-has_schedule) → T (consistent (content c.args.t))
 has c = subst T (sym c.if-not-has_schedule.false ∙ c.has_schedule.ensures) tt
 
 -- so many stops are taken
-taken : (c : After-first_entries-w) → c.lesser-taken.result ≡ min c.args.stops (c.args.t.events + 1)
-taken c = c.lesser-taken.ensures
+taken : (c : After-first_entries-w) → c.min-taken.result ≡ min c.args.stops (c.args.t.events + 1)
+taken c = c.min-taken.ensures
 
 -- the entries after them
 after_taken : (c : After-take_stops) → Everywhere c.args.t.events (λ i j. entry c.take_stops.new.w i j ≡ after c.args.t.events (entry c.first_entries-w.result) (min c.args.stops (c.args.t.events + 1)) i j)
-after_taken c = rw (← c.lesser-taken.ensures) c.take_stops.ensures
+after_taken c = rw (← c.min-taken.ensures) c.take_stops.ensures
 
 pub returns-then-not-has_schedule : goal.returns-then-not-has_schedule
 returns-then-not-has_schedule c = sym (worked_none (content c.args.t) c.args.stops c.args.out.now (sym c.has_schedule.ensures ∙ c.if-not-has_schedule.true))

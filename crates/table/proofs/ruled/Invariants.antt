@@ -1,13 +1,10 @@
--- What the loops of `table::ruled` keep, and what falls in each turn.
-use Prim.Native.Nat.{◌-◌, ◌≤◌}
+-- What the loop of `table::ruled` keeps.
 use mathlib.Core.Path.{◌≡◌}
+use mathlib.Core.List.{map}
 use lib.ListN.{length}
-use Rattle.table.specs.Lent.{rules_of}
-use Rattle.table.specs.Rules.{Ruling}
+use Rattle.table.specs.Lent.{rule_of}
+use Rattle.table.proofs.Rules.{Ruling}
 use Rattle.table.proofs.ruled.Given as goal
 
-abbrev pub invariant-loop-e : goal.invariant-loop-e
-invariant-loop-e l = (l.e ≤ l.count) × (length l.w ≡ 1681) × Ruling l.h (rules_of l.count l.rules.from l.rules.to l.rules.bound) l.w l.e
-
-abbrev pub decreases-loop-e : goal.decreases-loop-e
-decreases-loop-e l = l.count - l.e
+abbrev pub invariant-loop-rule : goal.invariant-loop-rule
+invariant-loop-rule l = (length l.w ≡ 1681) × Ruling l.h (map rule_of l.rules) l.w l.rule-index

@@ -7,5 +7,5 @@ use Rattle.text.proofs.put_event.Goals as goal
 pub returns-clause-puts : goal.returns-clause-puts
 unfolding line
 returns-clause-puts c =
-    simp append_assoc at
-    (puts_then c.put_part-a.ensures.puts (puts_then c.put_part-b.ensures.puts (puts_then c.put_part-c.ensures.puts c.put_part.ensures.puts)))
+    rw (← c.from.ensures) (simp append_assoc at
+    (puts_then c.put_part-a.ensures.puts (puts_then c.put_part-b.ensures.puts (puts_then c.put_part-c.ensures.puts c.put_part.ensures.puts))))

@@ -15,7 +15,7 @@ use Rattle.view.proofs.put_events.Goals as goal
 
 pub loop-i-init : goal.loop-i-init
 unfolding seen_to each
-loop-i-init c = (omega arith, canonical_few c.args.r c.requires.0, refl, refl, refl)
+loop-i-init c = (canonical_few c.args.r c.requires.0, refl, refl, refl)
 
 pub show_event-k-requires : goal.show_event-k-requires
 show_event-k-requires c = let a = c.args in
@@ -27,17 +27,16 @@ loop-i-preserved c = let a = c.args in
     let l = c.loop-i in
     let p = c.show_event-k in
     let inside = c.loop-i-test.true in (
-      omega (arith, inside),
-      l.invariant.1,
-      p.auto.out ∙ l.invariant.2,
-      p.ensures.value ∙ count_more a.r a.caller l.i inside c.may_see.ensures l.invariant.3,
-      p.ensures.out_after ∙ bytes_more a.r a.caller l.i inside c.may_see.ensures l.invariant.3 a.out.now l.invariant.4,
+      l.invariant.0,
+      p.auto.out ∙ l.invariant.1,
+      p.ensures.value ∙ count_more a.r a.caller l.i inside c.may_see.ensures l.invariant.2,
+      p.ensures.out_after ∙ bytes_more a.r a.caller l.i inside c.may_see.ensures l.invariant.2 a.out.now l.invariant.3,
     )
 
 pub returns : goal.returns
 returns c = let a = c.args in
     let l = c.loop-i in
     let e : l.i ≡ events (state_of a.r).ticket = omega (arith, in_events a.r.ticket) in record {
-      value = l.invariant.3 ∙ ap (λ n. length (seen_to n a.caller (state_of a.r))) e;
-      out_after = l.invariant.4 ∙ ap (λ n. sets a.out.now 2 (each write_seen (seen_to n a.caller (state_of a.r)))) e;
+      value = l.invariant.2 ∙ ap (λ n. length (seen_to n a.caller (state_of a.r))) e;
+      out_after = l.invariant.3 ∙ ap (λ n. sets a.out.now 2 (each write_seen (seen_to n a.caller (state_of a.r)))) e;
     }

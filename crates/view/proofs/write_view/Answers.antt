@@ -1,7 +1,7 @@
 -- `write_view` meets its contract: 15 where the windows are not fit, else the events and their count are stored at the start of the output.
 use native.Mathlib.Omega.{arith}
 use Prim.Native.Nat.{◌≤◌}
-use mathlib.Core.Path.{ap, ◌∙◌}
+use mathlib.Core.Path.{refl, ap, ◌∙◌}
 use lib.Seq.{sets}
 use Rattle.ticket.specs.Writer.{bytes}
 use Rattle.ticket.specs.Writing.{state_of}
@@ -26,7 +26,7 @@ fit-requires c =
 pub returns-then-not-fit : goal.returns-then-not-fit
 unfolding window_list
 returns-then-not-fit c = let a = c.args in
-    let whole = meets_refused (viewed_unfit a.caller (state_of a.r) a.out.now (c.fit.ensures ∙ c.if-not-fit.true)) c.refusal.ensures in
+    let whole = meets_refused (viewed_unfit a.caller (state_of a.r) a.out.now (c.fit.ensures ∙ c.if-not-fit.true)) refl in
     record { value = whole.0; out_after = whole.1 }
 
 pub overflow_mul-result : goal.overflow_mul-result

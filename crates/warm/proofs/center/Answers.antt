@@ -5,6 +5,6 @@ use Rattle.warm.proofs.center.Goals as goal
 
 pub shift-requires : goal.shift-requires
 shift-requires c = let small = c.headroom-room.ensures.small in record {
-  pot_len = (c.requires.potential.long, omega arith, c.requires.network.few, omega (arith, small));
-  by_index = pot_bound _ _ _ _ c.requires.network c.requires.potential;
+  pot_len = (c.requires.potential.long, omega arith, c.args.edges.now.network.few, omega (arith, small));
+  by_index = pot_bound _ _ _ _ c.args.edges.now.network c.requires.potential;
 }

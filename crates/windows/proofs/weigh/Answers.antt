@@ -1,7 +1,7 @@
--- `weigh` meets its contract. The invariant: the first i events have their weights.
-use native.Mathlib.Omega.{arith}
+-- `weigh` meets its contract.
+use Rattle.std.proofs.Common.{arith}
 use Rattle.windows.specs.Weights.{weighs_more}
 use Rattle.windows.proofs.weigh.Goals as goal
 
 pub loop-i-preserved : goal.loop-i-preserved
-loop-i-preserved c = (omega arith, weighs_more (omega arith) c.weight.ensures c.loop-i.invariant.1)
+loop-i-preserved c = weighs_more (omega arith) c.weight.ensures c.loop-i.invariant

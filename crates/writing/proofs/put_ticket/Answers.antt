@@ -1,9 +1,11 @@
 -- `writing::put_ticket` meets its contract. The five parts lie one after the other. Assumes nothing.
 use Prim.Native.Nat.{◌+◌}
-use mathlib.Core.Path.{ap, ◌∙◌}
+use mathlib.Core.Path.{sym, ap, ◌∙◌}
+use borrow.Author.Rules.{rules}
 use lib.Seq.{sets}
 use Rattle.ticket.specs.Writer.{bytes, each, write_rule}
 use Rattle.ticket.specs.Writing.{firsts, owner_in, rule_in}
+use Rattle.ticket.proofs.Agree.{firsts_take}
 use Rattle.ticket.proofs.WritingLaws.{length_firsts}
 use Rattle.writing.specs.Stores.{sets_ticket}
 use Rattle.writing.proofs.put_ticket.Goals as goal
@@ -20,7 +22,8 @@ returns c = let a = c.args in
     ∙ ap (λ l. sets l (8 + n) (each write_rule rs))
     (c.put_u16-2.ensures
     ∙ ap (λ l. sets l (6 + n) (bytes 2 m))
-    (c.put_owners.ensures
+    (c.put_bytes.ensures
+    ∙ ap (sets _ 6) (sym (firsts_take t.owners 0 n (search rules)))
     ∙ ap (λ l. sets l 6 os)
     (c.put_u16.ensures
     ∙ ap (λ l. sets l 4 (bytes 2 n)) c.put_u32.ensures)))

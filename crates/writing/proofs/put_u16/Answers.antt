@@ -1,11 +1,7 @@
--- `writing::put_u16` meets its contract. The stores, one after the other. Assumes nothing.
-use Prim.Native.Nat.{suc, ◌+◌}
-use mathlib.Core.Path.{◌≡◌}
-use native.Mathlib.Omega.{arith}
+-- `writing::put_u16` meets its contract: the first two of the number's bytes. Assumes nothing.
 use Rattle.ticket.specs.Writer.{bytes}
 use Rattle.writing.proofs.put_u16.Goals as goal
 
 pub returns : goal.returns
 unfolding bytes
-returns c = let one : c.args.at + 1 ≡ suc c.args.at = omega arith in
-    rw one
+returns c = rw (c.put_bytes.ensures, c.to_le_bytes.ensures)

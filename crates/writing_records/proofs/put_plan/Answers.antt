@@ -9,7 +9,7 @@ use Rattle.writing_records.proofs.put_plan.Goals as goal
 
 pub returns : goal.returns
 returns c = let a = c.args in
-    let r = a.r in
+    let r = a.r.now in
     let n = r.ticket.events in
     c.put_counts.ensures
     ∙ ap (λ l. sets l (a.at + 4 + 9 * n) (each (bytes 2) (firsts 5 (count_in r))))

@@ -1,5 +1,4 @@
 -- What `test_counts` keeps true: the tests so far are passed.
-use Prim.Native.Nat.{◌-◌, ◌≤◌}
 use mathlib.Core.Path.{◌≡◌}
 use mathlib.Core.List.{[]}
 use Rattle.ticket.specs.Parser.{got}
@@ -7,7 +6,4 @@ use Rattle.ticket.specs.Writing.{tests, test_count}
 use Rattle.writing_records.proofs.test_counts.Given as goal
 
 abbrev pub invariant-loop-o : goal.invariant-loop-o
-invariant-loop-o l = (l.o ≤ 5) × (tests l.o (test_count l.r) [] ≡ got tt [])
-
-abbrev pub decreases-loop-o : goal.decreases-loop-o
-decreases-loop-o l = 5 - l.o
+invariant-loop-o l = tests l.o (test_count l.r) [] ≡ got tt []

@@ -1,5 +1,4 @@
 -- What `test_windows` keeps true: the tests so far are passed.
-use Prim.Native.Nat.{◌-◌, ◌≤◌}
 use mathlib.Core.Path.{◌≡◌}
 use mathlib.Core.List.{[]}
 use Rattle.ticket.specs.Parser.{got}
@@ -7,7 +6,4 @@ use Rattle.ticket.specs.Writing.{tests, test_window}
 use Rattle.writing_records.proofs.test_windows.Given as goal
 
 abbrev pub invariant-loop-i : goal.invariant-loop-i
-invariant-loop-i l = (l.i ≤ l.n) × (tests l.i (test_window l.r) [] ≡ got tt [])
-
-abbrev pub decreases-loop-i : goal.decreases-loop-i
-decreases-loop-i l = l.n - l.i
+invariant-loop-i l = tests l.i (test_window l.r) [] ≡ got tt []

@@ -1,0 +1,2 @@
+-- The lemmas of crate table.
+pub mod Rules

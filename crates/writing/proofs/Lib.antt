@@ -1,0 +1,2 @@
+-- The lemmas of crate writing.
+pub mod Tests
