@@ -181,8 +181,8 @@
  *     commitment, swap two buffers (see below).
  *   - While a call runs, nobody else writes its input or touches its output.
  *   Calls in several threads need no lock where each has memory of its own. Every function ends after a
- *   bounded number of steps, whatever it is given. Of stack both plans use less than 32 kilobytes and
- *   beyunlak_commit less than 30, in each 7,296 bytes of them for the scratch that the caller does not lend;
+ *   bounded number of steps, whatever it is given. Of stack both plans use less than 30 kilobytes and
+ *   beyunlak_commit less than 24, in each 7,296 bytes of them for the scratch that the caller does not lend;
  *   beyunlak_part uses less than 110, beyunlak_table_after less than 65, and every other function,
  *   beyunlak_view among them, less than 45 (measured; it depends on how the library was compiled).
  *   Bytes from a stranger are safe: they are refused or accepted, and never read or written past their length.

@@ -1411,6 +1411,11 @@ while read -r verdict name; do
     if [ "$verdict" = ok ]; then pass; else fail "doors: $name"; fi
 done <"$work/got"
 
+# a host without a C library brings these two, and nothing more is asked of it
+printf 'memcpy\nmemset\n' >"$work/wanted"
+nm -u "$library" | sed -n 's/^ *U //p' | sort -u >"$work/got"
+same 'what the library needs from outside' "$work/wanted" "$work/got"
+
 for program in host 'doors short' table 'table stops' "commit $p1_run_words" "view $p1_run_words" 'record 1 6 10 2 8 8' 'mend /dev/null' 'part 0' 'part 1'; do
     # shellcheck disable=SC2086
     valgrind -q --error-exitcode=9 --leak-check=full "$work/"$program <examples/tickets/p1.ticket >/dev/null 2>"$work/errors"

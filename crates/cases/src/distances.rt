@@ -7,7 +7,9 @@ use std::io;
 use ticket::Refusal;
 
 // The numbers up to the last that has changed.
-fn changed(out: &[i32]) -> &[i32] {
+fn changed(out: &[i32]) -> &[i32]
+    ensures { length result.now ≤ length out.now }
+{
     let n = out.iter().rposition(|x| *x != 7).map_or(0, |k| k + 1);
     &out[..n]
 }

@@ -104,14 +104,13 @@ pub fn bounded(x: u64, c: i32) -> u64
     x.min(raised(c))
 }
 
-// The row k, apart: a loop that read it in the array, where it stores another row, would run entry by entry.
-fn row_of(w: &[u64; 1681], k: usize) -> [u64; 41]
+// The row k, apart: a loop that read it in the array, where it stores another row, would run entry by entry. It is stored in a lent array, since an answer is copied
+// three times.
+fn row_of(w: &[u64; 1681], k: usize, row: &mut [u64; 41])
     requires { k ≤ 40 }
-    ensures { (j : ℕ) → j ≤ 40 → slice_index result j ≡ entry w.now k j }
+    ensures { (j : ℕ) → j ≤ 40 → slice_index row.new j ≡ entry w.now k j }
 {
-    let mut row = [0u64; 41];
     row.copy_from_slice(&w[41 * k..41 * k + 41]);
-    row
 }
 
 // The row i after the stop k, whose row is lent as it was before the stop.
@@ -138,7 +137,8 @@ pub fn stop(w: &mut [u64; 1681], n: usize, k: usize)
     ensures everywhere_2 { Everywhere n (λ i j. entry w.new i j ≡ matrix.relax (entry w.old) k i j) }
     ensures carried { Carried n (n - k) (entry w.old) (n - k + 1) (entry w.new) }
 {
-    let row = row_of(w, k);
+    let mut row = [0u64; 41];
+    row_of(w, k, &mut row);
     for i in 0..n + 1 {
         relax_row(w, n, k, i, &row);
     }

@@ -39,3 +39,12 @@ placed_all z k s n e =
     let q : n ≡ k = omega arith in
     rw q (ap (λ xs. take k s ++ xs) (drop-replicate k k z ∙ ap (λ m. replicate m z) (omega (arith, length-take k s)))))
     (below_or_not (length s) k)
+
+-- Lists that are as much of the slices as there are places are those of a given struct.
+pub valued_of : (h n m : ℕ) (o os f fs t ts : List ℕ) (b bs : List ℤ) → o ≡ placed 0 40 os → f ≡ placed 0 256 fs → t ≡ placed 0 256 ts → b ≡ placed (pos 0) 256 bs
+    → ◌≡◌ {A = Ticket} (record { horizon = h; events = n; owners = o; rules = m; from = f; to = t; bound = b }) (valued h n os m fs ts bs)
+valued_of h n m o os f fs t ts b bs eo ef et eb = rw (eo, ef, et, eb)
+
+pub recorded_of : (t v : Ticket) (f fs o os c cs k ks : List ℕ) → t ≡ v → f ≡ placed 0 40 fs → o ≡ placed 0 40 os → c ≡ placed 0 40 cs → k ≡ placed 0 5 ks
+    → ◌≡◌ {A = Record} (record { ticket = t; flags = f; opens = o; closes = c; counts = k }) (recorded v fs os cs ks)
+recorded_of t v f fs o os c cs k ks et ef eo ec ek = rw (et, ef, eo, ec, ek)

@@ -29,7 +29,7 @@ fn close(t: Ticket) -> Option<[u64; 1681]>
     // room for the edges of a ticket's rules and limits
     let mut net = [0u32; 1344];
     let mut times = [0u32; 81];
-    if !schedule::schedule(&mut net, t, &mut times) {
+    if !schedule::schedule(&mut net, &t, &mut times) {
         return None;
     }
     let n = t.events;

@@ -10,7 +10,9 @@ ghost use Rattle.temporal.specs.Ticket.{total};
 ghost use Rattle.temporal.specs.Plan.{plan_for, cause, commit, accepted, asking};
 ghost use Rattle.temporal.specs.Run.{Valid};
 ghost use Rattle.ticket.specs.Parser.{wholly};
+ghost use Rattle.ticket.specs.Refusal.{answer_number};
 ghost use Rattle.ticket.specs.Format.{read_ticket};
+ghost use Rattle.ticket.specs.Stored.{whole_ticket};
 ghost use Rattle.ticket.specs.Writer.{write_state};
 ghost use Rattle.ticket.specs.Writing.{content, state_of, over};
 ghost use Rattle.causes.specs.Zeroed.{past};
@@ -32,43 +34,58 @@ pub struct Accepted {
 }
 
 // Write the record into the output.
-fn write_out(r: Record, out: &mut [u8]) -> Accepted
-    requires { Canonical r × (1958 ≤ length out.old) }
+fn write_out(r: &Record, out: &mut [u8]) -> Accepted
+    requires { Canonical r.now × (1958 ≤ length out.old) }
     ensures value { result ≡ record {
-      length = length (write_state (state_of r));
-      total = total (state_of r).ticket (state_of r).windows;
+      length = length (write_state (state_of r.now));
+      total = total (state_of r.now).ticket (state_of r.now).windows;
     } }
-    ensures out_after { out.new ≡ over (write_state (state_of r)) out.old }
+    ensures out_after { out.new ≡ over (write_state (state_of r.now)) out.old }
 {
     let total = fitness::total(r.ticket, &r.opens, &r.closes);
-    let length = writing_records::put_record(r, out);
+    let length = writing_records::put_record(*r, out);
     Accepted { length, total }
 }
 
 // Plan a ticket that was read: the latest plan where `latest` says so. It is an input, of which the contract speaks (`plan_for latest`); a plan as a closure would bring
-// its whole contract along.
+// its whole contract along. Never inlined, so that what stands on the stack for it does not stand there while the ticket is read.
+#[inline(never)]
 fn plan_ticket(
-    t: Ticket,
+    t: &Ticket,
     latest: bool,
     out: &mut [u8],
     scratch: &mut [u32],
 ) -> Result<Accepted, Refusal>
-    requires valid { Valid (content t) }
+    requires valid { Valid (content t.now) }
     requires in_bounds { (1958 ≤ length out.old) × (1824 ≤ length scratch.old) }
-    ensures { Meets (answered out.old scratch.old (plan_for latest (content t))) scratch.old (told result) out.new scratch.new }
+    ensures { Meets (answered out.old scratch.old (plan_for latest (content t.now))) scratch.old (told result) out.new scratch.new }
 {
     let mut r = Record {
-        ticket: t,
+        ticket: *t,
         flags: [0; Ticket::EVENTS],
         opens: [0; Ticket::EVENTS],
         closes: [0; Ticket::EVENTS],
         counts: [0; ticket::DEVICES],
     };
-    let found = latest::plan_windows(&mut scratch[..1824], t, latest, &mut r.opens, &mut r.closes);
+    let found = latest::plan_windows(
+        &mut scratch[..1824],
+        *t,
+        latest,
+        &mut r.opens,
+        &mut r.closes,
+    );
     if !found {
         return Err(Refusal::Impossible);
     }
-    Ok(write_out(r, out))
+    Ok(write_out(&r, out))
+}
+
+// The ticket that the bytes hold. Never inlined, so that what reading needs of the stack is free again when it has answered.
+#[inline(never)]
+fn read(ticket: &[u8]) -> Result<Ticket, Refusal>
+    ensures { result ≡ whole_ticket ticket.now }
+{
+    reading::read_ticket(ticket)
 }
 
 // Plan the ticket that the bytes hold, where there is room: the latest plan where `latest` says so (an input, as above). Of the scratch the first 1,824 numbers are
@@ -83,8 +100,12 @@ pub fn plan_bytes(
     ensures { Meets (after_reading out.old scratch.old (plan_for latest) (wholly read_ticket ticket.now))
         scratch.old (told result) out.new scratch.new }
 {
-    let t = reading::read_ticket(ticket)?;
-    plan_ticket(t, latest, out, scratch)
+    // looked at where it lies: `?` would lay the ticket on the stack once more
+    let read = read(ticket);
+    match &read {
+        Err(refusal) => Err(*refusal),
+        Ok(t) => plan_ticket(t, latest, out, scratch),
+    }
 }
 
 // Plan the ticket that the bytes hold: the record goes into the output.
@@ -115,38 +136,52 @@ pub fn plan_latest(ticket: &[u8], out: &mut [u8], scratch: &mut [u32]) -> Result
     answer
 }
 
-// The record with the event committed to the window by the caller, and the free windows as wide as they can be.
+// Commit the event of the record to the window by the caller, and make the free windows as wide as they can be.
 fn commit_event(
-    r: Record,
+    r: &mut Record,
     caller: u32,
     event: u32,
     opens: u32,
     closes: u32,
     scratch: &mut [u32],
-) -> Record
-    requires canonical { Canonical r × (cause (state_of r) (asking caller event opens closes) ≡ 0) }
+)
+    requires canonical { Canonical r.old × (cause (state_of r.old) (asking caller event opens closes) ≡ 0) }
     requires in_bounds { 1824 ≤ length scratch.old }
-    ensures canonical_2 { Canonical result × (commit (state_of r) (asking caller event opens closes) ≡ accepted (state_of result)) }
+    ensures canonical_2 { Canonical r.new × (commit (state_of r.old) (asking caller event opens closes) ≡ accepted (state_of r.new)) }
     ensures scratch_unchanged { past 2400 scratch.new ≡ past 2400 scratch.old }
 {
-    let mut next = r;
     windows::commit_window(
         &mut scratch[..1824],
         r.ticket,
-        &mut next.flags,
-        &mut next.opens,
-        &mut next.closes,
+        &mut r.flags,
+        &mut r.opens,
+        &mut r.closes,
         event as usize,
         opens,
         closes,
     );
-    next.counts[caller as usize] += 1;
-    next
+    r.counts[caller as usize] += 1;
 }
 
-// Commit to a record that was read.
+// The first cause to refuse the commitment. Never inlined, so that the copy of the record that it hands on is off the stack when it has answered.
+#[inline(never)]
+fn test_commitment(
+    r: &Record,
+    caller: u32,
+    event: u32,
+    opens: u32,
+    closes: u32,
+) -> Result<(), Refusal>
+    requires { Canonical r.now × (caller ≤ 4) }
+    ensures { answer_number result ≡ cause (state_of r.now) (asking caller event opens closes) }
+{
+    causes::cause(*r, caller, event, opens, closes)
+}
+
+// Commit to a record that was read. Never inlined, so that what stands on the stack for it does not stand there while the record is read.
+#[inline(never)]
 fn commit_record(
-    r: Record,
+    r: &Record,
     caller: u32,
     event: u32,
     opens: u32,
@@ -154,13 +189,14 @@ fn commit_record(
     out: &mut [u8],
     scratch: &mut [u32],
 ) -> Result<Accepted, Refusal>
-    requires { Canonical r × (caller ≤ 4) × (1958 ≤ length out.old) × (1824 ≤ length scratch.old) }
-    ensures { Meets (answered out.old scratch.old (commit (state_of r) (asking caller event opens closes)))
+    requires { Canonical r.now × (caller ≤ 4) × (1958 ≤ length out.old) × (1824 ≤ length scratch.old) }
+    ensures { Meets (answered out.old scratch.old (commit (state_of r.now) (asking caller event opens closes)))
         scratch.old (told result) out.new scratch.new }
 {
-    causes::cause(r, caller, event, opens, closes)?;
-    let next = commit_event(r, caller, event, opens, closes, scratch);
-    Ok(write_out(next, out))
+    test_commitment(r, caller, event, opens, closes)?;
+    let mut next = *r;
+    commit_event(&mut next, caller, event, opens, closes, scratch);
+    Ok(write_out(&next, out))
 }
 
 // Commit to the record that the bytes hold, where there is room. Of the scratch the first 1,824 numbers are used, and not cleared.
@@ -180,8 +216,12 @@ pub fn commit_bytes(
     if DEVICES <= caller {
         return Err(Refusal::Caller);
     }
-    let r = reading_records::read_record(record)?;
-    commit_record(r, caller, event, opens, closes, out, scratch)
+    // looked at where it lies: `?` would lay the record on the stack once more
+    let read = reading_records::read_record(record);
+    match &read {
+        Err(refusal) => Err(*refusal),
+        Ok(r) => commit_record(r, caller, event, opens, closes, out, scratch),
+    }
 }
 
 // Commit the event of a record to a window: the new record goes into the output.

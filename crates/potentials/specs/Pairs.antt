@@ -5,12 +5,13 @@ use Rattle.std.proofs.Math.Path.{refl, ap}
 use Rattle.std.proofs.Common.{sym, ◌∙◌, length-set, get_or-set_same, get_or-set_other}
 use Rattle.std.proofs.Math.Bool.{cond}
 use native.Mathlib.Omega.{arith}
-use borrow.Author.Count.{below_more}
+use borrow.Author.Count.{below_none, below_more}
 use Rattle.temporal.proofs.Lists.{tab_cong}
 use Rattle.temporal.specs.Ticket.{Window}
+use Rattle.network.specs.Lists.{set_more}
 use Rattle.network.specs.Stored.{at}
 use Rattle.ticket.proofs.WritingLaws.{firsts_tab}
-use Rattle.potentials.specs.Arrays.{window_list, window_at_lem, Within}
+use Rattle.potentials.specs.Arrays.{window_list, window_at_lem, Within, within_same}
 use Rattle.potentials.specs.Nodes.{by_nodes, windows_of, potential_of, potential_open, potential_close}
 
 -- ---- two numbers an event
@@ -131,6 +132,21 @@ pub record Read (n : ℕ) (pot opens closes opens' closes' : List ℕ) (k : ℕ)
   pub closes_within : Within k closes closes'
   pub opened : (i : ℕ) → i < k → at opens' i ≡ at pot (i + 1)
   pub closed : (i : ℕ) → i < k → at closes' i ≡ at pot (n + i + 1)
+
+within_more : {xs xs' : List ℕ} {k : ℕ} (x : ℕ) → Within k xs xs' → Within (k + 1) xs (set xs' k x)
+within_more {xs} {xs'} {k} x W = record { long = simp length-set W.long; past = λ i l. get_or-set_other xs' k i x 0 (λ q. omega arith) ∙ W.past i (omega arith) }
+
+pub read_none : (n : ℕ) (pot opens closes : List ℕ) → Read n pot opens closes opens closes 0
+read_none n pot opens closes = record { opens_within = within_same 0 opens; closes_within = within_same 0 closes; opened = below_none _; closed = below_none _ }
+
+pub read_more : {n : ℕ} {pot opens closes opens' closes' : List ℕ} {k : ℕ} → k < length opens → k < length closes → Read n pot opens closes opens' closes' k
+    → Read n pot opens closes (set opens' k (at pot (k + 1))) (set closes' k (at pot (n + k + 1))) (k + 1)
+read_more {n} {pot} {opens} {closes} {opens'} {closes'} {k} lo lc R = record {
+  opens_within = within_more (at pot (k + 1)) R.opens_within;
+  closes_within = within_more (at pot (n + k + 1)) R.closes_within;
+  opened = set_more (λ i x. x ≡ at pot (i + 1)) opens' k (at pot (k + 1)) (omega (arith, R.opens_within.long)) R.opened refl;
+  closed = set_more (λ i x. x ≡ at pot (n + i + 1)) closes' k (at pot (n + k + 1)) (omega (arith, R.closes_within.long)) R.closed refl;
+}
 
 pub read_windows_lem : {n : ℕ} {pot opens closes opens' closes' : List ℕ} → Read n pot opens closes opens' closes' n → window_list n opens' closes' ≡ windows_of n (at pot)
 unfolding window_list windows_of

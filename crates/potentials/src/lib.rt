@@ -27,14 +27,16 @@ pub fn spread(n: usize, pot: &mut [u32; 81])
     pot.copy_within(1..=n, n + 1);
 }
 
-// The windows of a potential.
+// The windows of a potential, event by event: a copy of `n` numbers would have the archives for C need `memmove`.
 pub fn read_windows(n: usize, pot: &[u32; 81], opens: &mut [u32; 40], closes: &mut [u32; 40])
     requires n_bound { n ≤ 40 }
     requires opens_len { (length opens.old ≡ 40) × (length closes.old ≡ 40) }
     ensures { Read n pot.now opens.old closes.old opens.new closes.new n }
 {
-    opens[..n].copy_from_slice(&pot[1..=n]);
-    closes[..n].copy_from_slice(&pot[n + 1..=2 * n]);
+    for i in 0..n {
+        opens[i] = pot[i + 1];
+        closes[i] = pot[n + i + 1];
+    }
 }
 
 // Let the window of event i + 1 grow, unless it is committed.

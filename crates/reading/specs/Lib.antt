@@ -1,4 +1,4 @@
--- What crate reading rests on. To believe the contract of `read_ticket` read Stored in crate ticket.
+-- What crate reading rests on. To believe the contract of `read_ticket` read Stored and Refusal in crate ticket.
 -- Parts says what the functions on the way answer; the other modules are the laws that their proofs cite.
 pub mod Parts
 pub mod Rest

@@ -52,6 +52,23 @@ rules_room n s rs t e =
     let k = many_fixed 6 (read_rule n) (rule_fixed n) m s₂ rs t e₂ in
     omega (arith, many_length (read_rule n) m s₂ rs t e₂, f.1, k.1, ap length f.0, length-drop 2 s, ap length g.0)))
 
+-- The owners from a place on.
+pub owners_got : (s : List ℕ) (at n : ℕ) (owners : List ℕ) → at ≤ length s → Ok owners ≡ owners_at s at n
+    → (os : List ℕ) × (many read_owner n (drop at s) ≡ got os (drop (at + n) s)) × (owners ≡ pad 0 40 os) × (length os ≡ n) × (at + n ≤ length s)
+owners_got s at n owners h e =
+    let p = many read_owner n in
+    let (os, t, q, same) = was_ok (pad 0 40) (p (drop at s)) e in
+    let (g, room) = left_at (n * 1) p (many_fixed 1 read_owner owner_fixed n) s at os t h q in
+    let one : at + n * 1 ≡ at + n = ap (λ k. at + k) (mul-one n) in
+    (os, g ∙ ap (λ k. got os (drop k s)) one, same, many_length read_owner n (drop at s) os t q, omega (arith, one))
+
+-- The rules with their number, from a place on.
+pub rules_got : (s : List ℕ) (at n : ℕ) (x : Rules) → at ≤ length s → Ok x ≡ all_rules_at s at n
+    → (rs : List temporal.Rule) × (t : List ℕ) × (read_rules n (drop at s) ≡ got rs t) × (x ≡ rules_of rs) × (at + 2 + 6 * x.count ≤ length s)
+rules_got s at n x h e =
+    let (rs, t, q, same) = was_ok rules_of (read_rules n (drop at s)) e in
+    (rs, t, q, same, rw same (omega (arith, rules_room n (drop at s) rs t q, length-drop at s)))
+
 -- An accepted ticket is put together from its parts.
 assembled : (at h n : ℕ) (owners : List ℕ) (x : Rules) (os : List ℕ) (rs : List temporal.Rule) → n ≡ length os → owners ≡ pad 0 40 os → x ≡ rules_of rs
     → ◌≡◌ {A = ReadTicket}
@@ -75,29 +92,21 @@ module _ (s : List ℕ) (at : ℕ) (f : Front) (ef : Ok f ≡ front_at s at) whe
 
   -- its owners,
   module _ (owners : List ℕ) (eo : Ok owners ≡ owners_at s (at + 6) f.events) where
-    pub owners_got : (os : List ℕ)
+    pub owners_read : (os : List ℕ)
         × (many read_owner f.events (drop (at + 6) s) ≡ got os (drop (at + 6 + f.events) s))
         × (owners ≡ pad 0 40 os)
         × (length os ≡ f.events)
         × (at + 6 + f.events ≤ length s)
-    owners_got =
-        let p = many read_owner f.events in
-        let (os, t, q, same) = was_ok (pad 0 40) (p (drop (at + 6) s)) eo in
-        let (g, room) = left_at (f.events * 1) p (many_fixed 1 read_owner owner_fixed f.events) s (at + 6) os t front_got.1 q in
-        let one : at + 6 + f.events * 1 ≡ at + 6 + f.events = ap (λ k. at + 6 + k) (mul-one f.events) in
-        (os, g ∙ ap (λ k. got os (drop k s)) one, same, many_length read_owner f.events (drop (at + 6) s) os t q, omega (arith, one))
+    owners_read = owners_got s (at + 6) f.events owners front_got.1 eo
 
     -- and its rules.
     module _ (x : Rules) (er : Ok x ≡ all_rules_at s (at + 6 + f.events) f.events) where
-      pub rules_got : (rs : List temporal.Rule)
+      pub rules_read : (rs : List temporal.Rule)
           × (t : List ℕ)
           × (read_rules f.events (drop (at + 6 + f.events) s) ≡ got rs t)
           × (x ≡ rules_of rs)
           × (at + 6 + f.events + 2 + 6 * x.count ≤ length s)
-      rules_got =
-          let rest = drop (at + 6 + f.events) s in
-          let (rs, t, q, same) = was_ok rules_of (read_rules f.events rest) er in
-          (rs, t, q, same, rw same (omega (arith, rules_room f.events rest rs t q, length-drop (at + 6 + f.events) s, owners_got.4)))
+      rules_read = rules_got s (at + 6 + f.events) f.events x owners_read.4 er
 
       pub ticket_got :
           Ok (record {
@@ -105,7 +114,7 @@ module _ (s : List ℕ) (at : ℕ) (f : Front) (ef : Ok f ≡ front_at s at) whe
             next = at + 8 + f.events + 6 * x.count;
           }) ≡ ticket_at s at
       ticket_got =
-          let o = owners_got in
-          let r = rules_got in
+          let o = owners_read in
+          let r = rules_read in
           ap Ok (assembled at f.horizon f.events owners x o.0 r.0 (sym o.3) o.2 r.3)
           ∙ ap (answer (read_of at)) (sym (whole (drop at s) _ _ front_got.0 o.0 _ o.1 r.0 r.1 r.2))

@@ -9,7 +9,7 @@ use Rattle.ticket.specs.declared.Refusal.TheVariants.{Trailing}
 -- p reads what w writes, in `size` bytes, and has read a with the bytes u after it.
 module _ {A B : Type 0} (w : A → List ℕ) (P : A → Type 0) (p : Parser A) (back : Back w P p) (size : A → ℕ) (long : (a : A) → P a → length (w a) ≡ size a)
     (f : A → B) (s : List ℕ) (h : Bytes s) (a : A) (u : List ℕ) (q : p s ≡ got a u) where
-  room : length s ≡ size a + length u
+  pub room : length s ≡ size a + length u
   room =
       let b = back s a u h q in
       omega (arith, ap length b.0, length-append (w a) u, long a b.2)

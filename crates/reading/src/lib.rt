@@ -3,7 +3,7 @@
 
 #![tactic(auto)]
 
-ghost use Rattle.std.specs.Prelude.{◌≡◌, ◌+◌, ◌≤◌, length, drop};
+ghost use Rattle.std.specs.Prelude.{◌≡◌, ◌+◌, ◌*◌, ◌≤◌, length, drop, IfOk};
 ghost use Rattle.ticket.specs.Parser.{got, little};
 ghost use Rattle.ticket.specs.Stored.{whole_ticket};
 ghost use Rattle.reading.specs.Parts.{owners_at, rule_at, rules_at, all_rules_at, front_at, ticket_at};
@@ -200,9 +200,10 @@ pub fn first_ticket(s: &[u8]) -> Result<ReadTicket, Refusal>
     Reader::new(s).next_ticket()
 }
 
-// A whole ticket: nothing may come after it.
+// A whole ticket: nothing may come after it, so the place past it is the end of the bytes.
 pub fn read_ticket(s: &[u8]) -> Result<Ticket, Refusal>
-    ensures { result ≡ whole_ticket s.now }
+    ensures value { result ≡ whole_ticket s.now }
+    ensures past { IfOk result (λ t. length s.now ≡ 8 + t.events + 6 * t.rules) }
 {
     let read = first_ticket(s)?;
     if read.next < s.len() {

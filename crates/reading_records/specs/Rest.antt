@@ -36,6 +36,16 @@ as_many : (n h : ℕ) (s : List ℕ) (es : List Entry) (t : List ℕ) → read_w
 unfolding read_windows
 as_many n h s es t e = stage (read_same n) _ s es t e (λ u s₁ en e₁. many_length (read_window h) n s₁ es t e₁)
 
+-- The section of windows from a place on: as many are read as were asked for.
+pub windows_got : (s : List ℕ) (at n h : ℕ) (w : Windows) → at ≤ length s → Ok w ≡ window_section s at n h
+    → (es : List Entry) × (read_windows n h (drop at s) ≡ got es (drop (at + 2 + 9 * n) s)) × (w ≡ windows_of es) × (at + 2 + 9 * n ≤ length s) × (length es ≡ n)
+windows_got s at n h w l e =
+    let p = read_windows n h in
+    let (es, t, q, same) = was_ok windows_of (p (drop at s)) e in
+    let (g, room) = left_at (2 + n * 9) p (windows_fixed n h) s at es t l q in
+    let nine : at + (2 + n * 9) ≡ at + 2 + 9 * n = omega arith in
+    (es, g ∙ ap (λ k. got es (drop k s)) nine, same, omega (arith, room, nine), as_many n h (drop at s) es t q)
+
 -- What the arrays of an accepted ticket and of its windows say of the flags of each device.
 flags_told : (tk : struct.Ticket) (w : Windows) (t : Ticket) (es : List Entry) → tk ≡ stored t → w ≡ windows_of es → length es ≡ length t.owners
     → flag_counts (firsts tk.events (λ i. get_or tk.owners i 0)) (firsts tk.events (λ i. eqb (get_or w.flags i 0) 1)) ≡ flag_counts t.owners (flags_in es)
@@ -98,12 +108,10 @@ module _ (s : List ℕ) (bytes : Bytes s) (r : ReadTicket) (er : Ok r ≡ ticket
         × (r.next + 2 + 9 * r.ticket.events ≤ length s)
         × (length es ≡ length t.owners)
     windows_read =
-        let (t, et, stored_t, next, inside, events, few) = ticket_read in
-        let p = read_windows (length t.owners) t.horizon in
-        let (es, u, q, same) = was_ok windows_of (p (drop r.next s)) (ew ∙ windows_told) in
-        let (g, room) = left_at (2 + length t.owners * 9) p (windows_fixed (length t.owners) t.horizon) s r.next es u inside q in
-        let place : r.next + (2 + length t.owners * 9) ≡ r.next + 2 + 9 * r.ticket.events = omega arith in
-        (es, g ∙ ap (λ k. got es (drop k s)) place, same, omega arith, as_many (length t.owners) t.horizon (drop r.next s) es u q)
+        let (t, _, _, _, inside, events, _) = ticket_read in
+        let (es, g, same, room, long) = windows_got s r.next (length t.owners) t.horizon w inside (ew ∙ windows_told) in
+        let place : r.next + 2 + 9 * length t.owners ≡ r.next + 2 + 9 * r.ticket.events = omega arith in
+        (es, g ∙ ap (λ k. got es (drop k s)) place, same, omega arith, long)
 
     -- and the counts, which are read for the flags of these windows.
     module _ (xs : List ℕ)

@@ -3,7 +3,7 @@
 
 #![tactic(auto)]
 
-ghost use Rattle.std.specs.Prelude.{◌≡◌, ◌≤◌, length, drop};
+ghost use Rattle.std.specs.Prelude.{◌≡◌, ◌+◌, ◌*◌, ◌≤◌, length, drop, IfOk};
 ghost use Rattle.ticket.specs.Format.{read_same};
 ghost use Rattle.ticket.specs.Refusal.{tested};
 ghost use Rattle.ticket.specs.Stored.{whole_record};
@@ -131,9 +131,10 @@ fn count_section(s: &[u8], at: usize, xs: &[u32; DEVICES]) -> Result<[u32; DEVIC
 
 // ---- the record
 
-// A whole record: a ticket, read through a reader, and the two sections that go on where the ticket ends; nothing may come after them.
+// A whole record: a ticket, read through a reader, and the two sections that go on where the ticket ends; nothing may come after them, so the place past them is the end of the bytes.
 pub fn read_record(s: &[u8]) -> Result<Record, Refusal>
-    ensures { result ≡ whole_record s.now }
+    ensures value { result ≡ whole_record s.now }
+    ensures past { IfOk result (λ r. length s.now ≡ 22 + 10 * r.ticket.events + 6 * r.ticket.rules) }
 {
     let ReadTicket { ticket, next } = reading::first_ticket(s)?;
     let n = ticket.events;

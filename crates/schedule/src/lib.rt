@@ -45,33 +45,33 @@ fn raise(times: &mut [u32; 81], t: &ticket::Ticket, j: usize) -> Step
     Step::Raised
 }
 
-// Raise the times, rule by rule and round after round, until all rules hold or one cannot be kept. Whether all hold.
-// After a round the rules from `kept` on hold; a round that raises nothing below there is the last. A schedule takes a round for each point and one more.
-fn relax(t: &ticket::Ticket, times: &mut [u32; 81]) -> bool
+// Raise the times, rule by rule and round after round, until all rules hold, which the answer 0 says, or one cannot be kept. The rules from the answer on hold.
+// A round that raises nothing ends where the rules hold from before. A schedule takes a round for each point and one more.
+fn relax(t: &ticket::Ticket, times: &mut [u32; 81]) -> usize
     requires given { Given t.now }
     requires low { Low t.now.events t.now.horizon times.old }
     ensures low_2 { Low t.now.events t.now.horizon times.new }
-    ensures hold { result ≡ true → HoldFrom t.now times.new 0 }
+    ensures hold_from { HoldFrom t.now times.new result }
 {
     let mut kept = t.rules;
     for _ in 0..42 {
         let mut last = 0;
         for j in 0..t.rules {
             if last == 0 && j == kept {
-                return true;
+                return 0;
             }
             match raise(times, t, j) {
                 Step::Kept => {}
                 Step::Raised => last = j + 1,
-                Step::Stuck => return false,
+                Step::Stuck => return t.rules,
             }
         }
         if last == 0 {
-            return true;
+            return 0;
         }
         kept = last;
     }
-    false
+    kept
 }
 
 // Add a rule to the network of the points, after j others, with the times moved as need be. Whether it can be kept.
@@ -167,12 +167,12 @@ fn search(net: &mut [u32], t: &ticket::Ticket, times: &mut [u32; 81]) -> bool
 }
 
 // The times of a schedule, where there is one.
-pub fn schedule(net: &mut [u32], t: ticket::Ticket, times: &mut [u32; 81]) -> bool
-    requires given { Given t }
-    requires rules_in_bounds { 8 * t.events + 4 * t.rules ≤ length net.old }
-    requires low { Low t.events t.horizon times.old }
-    ensures decided { Decided t times.new result }
+pub fn schedule(net: &mut [u32], t: &ticket::Ticket, times: &mut [u32; 81]) -> bool
+    requires given { Given t.now }
+    requires rules_in_bounds { 8 * t.now.events + 4 * t.now.rules ≤ length net.old }
+    requires low { Low t.now.events t.now.horizon times.old }
+    ensures decided { Decided t.now times.new result }
     ensures net_len_unchanged { length net.new ≡ length net.old }
 {
-    relax(&t, times) || search(net, &t, times)
+    relax(t, times) == 0 || search(net, t, times)
 }

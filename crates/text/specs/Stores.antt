@@ -1,6 +1,6 @@
 -- A text put into a list.
-use Rattle.std.specs.Prelude.{ℕ, suc, ◌+◌, ◌≤◌, ◌<◌, ◌≡◌, refl, List, [], ◌∷◌, ◌++◌, length, set}
-use Rattle.std.proofs.Common.{sym, ap, ◌∙◌, add-zero, add-suc, suc-add, arith, length-append, length-take-le}
+use Rattle.std.specs.Prelude.{ℕ, suc, ◌+◌, ◌≤◌, ◌<◌, ◌≡◌, refl, List, [], ◌∷◌, ◌++◌, length, set, take, get_or}
+use Rattle.std.proofs.Common.{sym, ap, ◌∙◌, add-zero, add-suc, suc-add, add_assoc, add-one, arith, length-append, take-suc, length-take-le}
 use Rattle.std.proofs.lemmas.List.Edits.{sets}
 use Rattle.std.proofs.Math.Seq.{length-sets}
 use Rattle.io.specs.Counts.{IsPrefixLen}
@@ -41,3 +41,10 @@ pub puts_counts : {text before after : List ℕ} {at next : ℕ} → Puts text b
 puts_counts {text} {before} {after} {at} {next} p =
     let h : next ≤ length after = omega (arith, p.inside, puts_length p) in
     (h, sym (length-take-le next after h))
+
+-- one element more of a list that is copied
+pub puts_more : (word : List ℕ) {before after : List ℕ} {at : ℕ} (i : ℕ) → i < length word → at + length word ≤ length before
+    → Puts (take i word) before after at (at + i) → Puts (take (i + 1) word) before (set after (at + i) (get_or word i 0)) at (at + (i + 1))
+puts_more word {before} {after} {at} i h f p =
+    rw (add-one i, take-suc word i 0, ← (add-one i), ← (add_assoc at i 1))
+    (puts_then p (puts_one after (at + i) (get_or word i 0) (omega (arith, puts_length p))))

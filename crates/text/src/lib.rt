@@ -50,14 +50,15 @@ pub fn put_part(out: &mut [u8], at: usize, x: u32, end: u8) -> usize
     put_byte(out, next, end)
 }
 
-// The bytes of a word.
+// The bytes of a word, one by one: a copy of as many as it has would have the archives for C need `memmove`.
 pub fn put_word(out: &mut [u8], at: usize, word: &[u8]) -> usize
     requires { at + length word.now ≤ length out.old }
     ensures { Puts word.now out.old out.new at result }
 {
-    let next = at + word.len();
-    out[at..next].copy_from_slice(word);
-    next
+    for i in 0..word.len() {
+        out[at + i] = word[i];
+    }
+    at + word.len()
 }
 
 fn put_event(out: &mut [u8], at: usize, event: u32, owner: u8, opens: u32, closes: u32) -> usize

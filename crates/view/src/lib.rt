@@ -66,16 +66,15 @@ fn show_event(
 }
 
 // Store the events that the caller may see after their count. How many they are.
-fn put_events(r: Record, caller: u32, out: &mut [u8]) -> usize
-    requires { Canonical r × (402 ≤ length out.old) }
-    ensures value { result ≡ length (seen caller (state_of r)) }
-    ensures out_after { out.new ≡ sets out.old 2 (each write_seen (seen caller (state_of r))) }
+fn put_events(r: &Record, caller: u32, out: &mut [u8]) -> usize
+    requires { Canonical r.now × (402 ≤ length out.old) }
+    ensures value { result ≡ length (seen caller (state_of r.now)) }
+    ensures out_after { out.new ≡ sets out.old 2 (each write_seen (seen caller (state_of r.now))) }
 {
-    let t = r.ticket;
-    let n = t.events;
+    let n = r.ticket.events;
     let mut k = 0;
     for i in 0..n {
-        let owner = t.owners[i];
+        let owner = r.ticket.owners[i];
         let flag = r.flags[i];
         let opens = r.opens[i];
         let closes = r.closes[i];
@@ -85,11 +84,12 @@ fn put_events(r: Record, caller: u32, out: &mut [u8]) -> usize
     k
 }
 
-// What the caller sees of a record that was read, into the output. How many bytes it is.
-fn write_view(r: Record, caller: u32, out: &mut [u8]) -> Result<usize, Refusal>
-    requires { Canonical r × (402 ≤ length out.old) }
-    ensures value { told result ≡ returned (viewed caller (state_of r) out.old) }
-    ensures out_after { out.new ≡ (viewed caller (state_of r) out.old).out }
+// What the caller sees of a record that was read, into the output. How many bytes it is. Never inlined, so that what stands on the stack for it does not stand there while the record is read.
+#[inline(never)]
+fn write_view(r: &Record, caller: u32, out: &mut [u8]) -> Result<usize, Refusal>
+    requires { Canonical r.now × (402 ≤ length out.old) }
+    ensures value { told result ≡ returned (viewed caller (state_of r.now) out.old) }
+    ensures out_after { out.new ≡ (viewed caller (state_of r.now) out.old).out }
 {
     if !fitness::fit(r.ticket, &r.opens, &r.closes) {
         return Err(Refusal::Unfit);
@@ -110,6 +110,10 @@ pub fn view(record: &[u8], caller: u32, out: &mut [u8]) -> Result<usize, Refusal
     if DEVICES <= caller {
         return Err(Refusal::Caller);
     }
-    let r = reading_records::read_record(record)?;
-    write_view(r, caller, out)
+    // looked at where it lies: `?` would lay the record on the stack once more
+    let read = reading_records::read_record(record);
+    match &read {
+        Err(refusal) => Err(*refusal),
+        Ok(r) => write_view(r, caller, out),
+    }
 }

@@ -72,6 +72,21 @@ module _ {nodes : ℕ} {stamp dist key : List ℕ} (few : nodes ≤ 81) (K : Key
         rest = λ u a b. rw (get_or-set_other key v u 8000000 0 (omega arith)) (K.rest u a b);
       }
 
+-- room for a search, with zeros alone
+abbrev pub unstarted : Trail
+unstarted =
+    record {
+      root = 0;
+      stamp = replicate 81 0;
+      via = replicate 81 0;
+      dist = replicate 81 0;
+      order = replicate 81 0;
+      reached = 0;
+      scanned = 0;
+      key = replicate 81 0;
+      distance = 0;
+    }
+
 -- root alone is reached
 abbrev pub started : Trail → ℕ → Trail
 started trail root =

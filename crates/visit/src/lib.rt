@@ -6,7 +6,7 @@
 
 ghost use Rattle.std.specs.Prelude.{◌≡◌, ◌+◌, ◌*◌, ◌-◌, ◌<◌, length};
 ghost use Rattle.network.specs.Stored.{at, tail_of, head_of};
-ghost use Rattle.visit.specs.Search.{started, joined};
+ghost use Rattle.visit.specs.Search.{unstarted, started, joined};
 ghost use Rattle.visit.specs.Visit.{Step, step_to, Offered, Backed, Boxed};
 
 use network::BIAS;
@@ -34,17 +34,19 @@ pub struct Trail {
 }
 
 impl Trail {
-    // Room for a search.
-    pub fn new() -> Trail {
+    // Room for a search, which `start` begins.
+    pub fn new() -> Trail
+        ensures { result ≡ unstarted }
+    {
         Trail {
             root: 0,
             stamp: [0; 81],
             via: [0; 81],
-            dist: [FAR; 81],
+            dist: [0; 81],
             order: [0; 81],
             reached: 0,
             scanned: 0,
-            key: [FAR; 81],
+            key: [0; 81],
             distance: 0,
         }
     }

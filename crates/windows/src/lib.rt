@@ -106,7 +106,7 @@ pub fn plan_windows(
     ensures net_len_unchanged { length net.new ≡ length net.old }
 {
     let mut pot = [0u32; 81];
-    if !schedule::schedule(net, t, &mut pot) {
+    if !schedule::schedule(net, &t, &mut pot) {
         return false;
     }
     place(net, &t, &mut pot, opens, closes);

@@ -19,15 +19,15 @@ returns-then-list-lt-LIST_BYTES c = let a = c.args in
 
 pub returns-in_err-t : goal.returns-in_err-t
 returns-in_err-t c = let a = c.args in
-    let whole = ticket_misread a.ticket.now a.out.now a.list.now (omega arith) (omega arith) c.in_err-t.ensures
+    let whole = ticket_misread a.ticket.now a.out.now a.list.now (omega arith) (omega arith) c.in_err-t.ensures.value
     (ap told (passed_on c.from_residual.result c.from_residual.ensures.1)) in
     record { value = whole.0; out_after = whole.1.0; list_after = whole.1.1 }
 
 pub write_mended-requires : goal.write_mended-requires
-write_mended-requires c = (read_valid c.args.ticket.now c.in_ok-t.ensures (λ i. omega (arith, c.type_inv.ticket i)), omega arith, omega arith)
+write_mended-requires c = (read_valid c.args.ticket.now c.in_ok-t.ensures.value (λ i. omega (arith, c.type_inv.ticket i)), omega arith, omega arith)
 
 pub returns : goal.returns
 returns c = let a = c.args in
     let w = c.write_mended.ensures in
-    let whole = ticket_mended a.ticket.now a.out.now a.list.now (omega arith) (omega arith) c.in_ok-t.ensures (w.value, (w.out_after, w.list_after)) in
+    let whole = ticket_mended a.ticket.now a.out.now a.list.now (omega arith) (omega arith) c.in_ok-t.ensures.value (w.value, (w.out_after, w.list_after)) in
     record { value = whole.0; out_after = whole.1.0; list_after = whole.1.1 }

@@ -19,14 +19,14 @@ returns-then-device-ge-DEVICES c = let a = c.args in
 
 pub returns-in_err-t : goal.returns-in_err-t
 returns-in_err-t c = let a = c.args in
-    let whole = ticket_misread a.ticket.now a.device a.out.now (omega arith) (omega arith) c.in_err-t.ensures
+    let whole = ticket_misread a.ticket.now a.device a.out.now (omega arith) (omega arith) c.in_err-t.ensures.value
     (ap told (passed_on c.from_residual.result c.from_residual.ensures.1)) in
     record { value = whole.0; out_after = whole.1 }
 
 pub write_part-requires : goal.write_part-requires
-write_part-requires c = (read_valid c.args.ticket.now c.in_ok-t.ensures (λ i. omega (arith, c.type_inv.ticket i)), omega arith)
+write_part-requires c = (read_valid c.args.ticket.now c.in_ok-t.ensures.value (λ i. omega (arith, c.type_inv.ticket i)), omega arith)
 
 pub returns : goal.returns
 returns c = let a = c.args in
-    let whole = ticket_parted a.ticket.now a.device a.out.now (omega arith) (omega arith) c.in_ok-t.ensures (c.write_part.ensures.value, c.write_part.ensures.out_after) in
+    let whole = ticket_parted a.ticket.now a.device a.out.now (omega arith) (omega arith) c.in_ok-t.ensures.value (c.write_part.ensures.value, c.write_part.ensures.out_after) in
     record { value = whole.0; out_after = whole.1 }

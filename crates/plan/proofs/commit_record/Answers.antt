@@ -8,8 +8,8 @@ use Rattle.plan.specs.Steps.{commit_refused}
 use Rattle.plan.specs.Meets.{meets_refused}
 use Rattle.plan.proofs.commit_record.Goals as goal
 
-pub returns-in_err-cause : goal.returns-in_err-cause
-returns-in_err-cause c = let a = c.args in
-    meets_refused a.out.now (commit_refused (state_of a.r) (asking a.caller a.event a.opens a.closes) c.in_err-cause.ensures
-    (λ z. omega (arith, number_positive c.in_err-cause.field-0.0, z)))
+pub returns-in_err-test_commitment : goal.returns-in_err-test_commitment
+returns-in_err-test_commitment c = let a = c.args in
+    meets_refused a.out.now (commit_refused (state_of a.r.now) (asking a.caller a.event a.opens a.closes) c.in_err-test_commitment.ensures
+    (λ z. omega (arith, number_positive c.in_err-test_commitment.field-0.0, z)))
     (ap told (passed_on c.from_residual.result c.from_residual.ensures.1)) refl

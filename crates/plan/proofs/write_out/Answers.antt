@@ -10,7 +10,7 @@ total-total-requires c =
 
 pub put_record-length-requires : goal.put_record-length-requires
 put_record-length-requires c = record {
-  storable = canonical_storable c.args.r c.requires.0;
+  storable = canonical_storable c.args.r.now c.requires.0;
   in_bounds = c.requires.1;
 }
 

@@ -9,18 +9,19 @@ use Rattle.ticket.specs.Format.{flags_in, state_size, flag_counts, read_ticket, 
 use Rattle.ticket.specs.RoundTrip.{Bytes}
 use Rattle.ticket.specs.Stored.{pad, stored_state}
 use Rattle.ticket.specs.Writer.{write_state}
+use Rattle.ticket.specs.declared.Ticket.{Ticket}
 use Rattle.ticket.proofs.Refusals.{passed_up}
 use Rattle.ticket.proofs.RoundTrip.{state_back, length_readable}
 use Rattle.ticket.proofs.Stages.{bad_ticket, bad_windows, bad_counts}
 use Rattle.reading.specs.Parts.{read_of}
-use Rattle.reading.specs.Whole.{whole_trailing, whole_done}
+use Rattle.reading.specs.Whole.{room, whole_trailing, whole_done}
 use Rattle.reading_records.specs.Parts.{windows_of}
 use Rattle.reading_records.specs.Rest.{ticket_read, windows_told, windows_read, counts_told, record_read}
 use borrow.Author.Rules.{rules}
 use Rattle.reading_records.proofs.read_record.Goals as goal
 
-pub returns-in_err-ticket : goal.returns-in_err-ticket
-returns-in_err-ticket c = let s = c.args.s.now in
+pub returns-in_err-ticket-clause-value : goal.returns-in_err-ticket-clause-value
+returns-in_err-ticket-clause-value c = let s = c.args.s.now in
     passed_up (read_of 0) stored_state (read_ticket s) _ c.from_residual.result c.from_residual.ensures.1 c.in_err-ticket.ensures (λ k e. rw (bad_ticket s k e))
 
 pub window_section-requires : goal.window_section-requires
@@ -28,8 +29,8 @@ window_section-requires c =
     let t = ticket_read c.args.s.now (λ i. search rules) _ c.in_ok-ticket.ensures in
     (t.4, t.6)
 
-pub returns-in_err-flags : goal.returns-in_err-flags
-returns-in_err-flags c = let s = c.args.s.now in
+pub returns-in_err-flags-clause-value : goal.returns-in_err-flags-clause-value
+returns-in_err-flags-clause-value c = let s = c.args.s.now in
     let bytes : Bytes s = λ i. search rules in
     let t = ticket_read s bytes _ c.in_ok-ticket.ensures in
     let up = c.from_residual-in_err-flags in
@@ -53,8 +54,8 @@ overflow_add-next-2 c =
 pub count_section-requires : goal.count_section-requires
 count_section-requires c = (windows_read c.args.s.now (λ i. search rules) _ c.in_ok-ticket.ensures _ c.in_ok-flags.ensures).3
 
-pub returns-in_err-counts : goal.returns-in_err-counts
-returns-in_err-counts c = let s = c.args.s.now in
+pub returns-in_err-counts-clause-value : goal.returns-in_err-counts-clause-value
+returns-in_err-counts-clause-value c = let s = c.args.s.now in
     let bytes : Bytes s = λ i. search rules in
     let ticket = c.in_ok-ticket.ensures in
     let windows = c.in_ok-flags.ensures in
@@ -77,14 +78,28 @@ overflow_add-end-2 c =
     let t = ticket_read c.args.s.now (λ i. search rules) _ c.in_ok-ticket.ensures in
     omega (arith, t.4, t.6)
 
-pub returns-then-end-s : goal.returns-then-end-s
-returns-then-end-s c = let s = c.args.s.now in
+pub returns-then-end-s-clause-value : goal.returns-then-end-s-clause-value
+returns-then-end-s-clause-value c = let s = c.args.s.now in
     let bytes : Bytes s = λ i. search rules in
     let (x, u, q, _, long) = record_read s bytes _ c.in_ok-ticket.ensures _ c.in_ok-flags.ensures _ c.flag_counts-xs.ensures _ c.in_ok-counts.ensures in
     whole_trailing write_state Readable read_state state_back state_size length_readable stored_state s bytes x u q (omega (arith, long))
 
-pub returns : goal.returns
-returns c = let s = c.args.s.now in
+pub returns-clause-value : goal.returns-clause-value
+returns-clause-value c = let s = c.args.s.now in
     let bytes : Bytes s = λ i. search rules in
     let (x, u, q, same, long) = record_read s bytes _ c.in_ok-ticket.ensures _ c.in_ok-flags.ensures _ c.flag_counts-xs.ensures _ c.in_ok-counts.ensures in
     ap Ok same ∙ whole_done write_state Readable read_state state_back state_size length_readable stored_state s bytes x u q (omega (arith, long))
+
+pub returns-clause-past : goal.returns-clause-past
+returns-clause-past c = let s = c.args.s.now in
+    let bytes : Bytes s = λ i. search rules in
+    let t = ticket_read s bytes _ c.in_ok-ticket.ensures in
+    let (x, u, q, _, long) = record_read s bytes _ c.in_ok-ticket.ensures _ c.in_ok-flags.ensures _ c.flag_counts-xs.ensures _ c.in_ok-counts.ensures in
+    omega (
+      arith,
+      long,
+      t.3,
+      t.5,
+      ap (λ (y : Ticket). y.rules) t.2,
+      room write_state Readable read_state state_back state_size length_readable stored_state s bytes x u q,
+    )

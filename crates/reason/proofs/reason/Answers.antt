@@ -16,15 +16,15 @@ returns-then-out-lt-TEXT_BYTES c =
 pub returns-in_err-t : goal.returns-in_err-t
 returns-in_err-t c =
     let a = c.args in
-    let whole = ticket_misread a.ticket.now a.labels.now a.roster.now a.out.now (omega arith) c.in_err-t.ensures
+    let whole = ticket_misread a.ticket.now a.labels.now a.roster.now a.out.now (omega arith) c.in_err-t.ensures.value
     (ap told (passed_on c.from_residual.result c.from_residual.ensures.1)) in
     record { value = whole.0; out_after = whole.1 }
 
 pub explain-requires : goal.explain-requires
-explain-requires c = (read_valid c.args.ticket.now c.in_ok-t.ensures (λ i. omega (arith, c.type_inv.ticket i)), omega arith)
+explain-requires c = (read_valid c.args.ticket.now c.in_ok-t.ensures.value (λ i. omega (arith, c.type_inv.ticket i)), omega arith)
 
 pub returns : goal.returns
 returns c =
     let a = c.args in
-    let whole = ticket_meets a.ticket.now a.labels.now a.roster.now a.out.now (omega arith) c.in_ok-t.ensures (c.explain.ensures.value, c.explain.ensures.out_after) in
+    let whole = ticket_meets a.ticket.now a.labels.now a.roster.now a.out.now (omega arith) c.in_ok-t.ensures.value (c.explain.ensures.value, c.explain.ensures.out_after) in
     record { value = whole.0; out_after = whole.1 }

@@ -14,11 +14,11 @@ returns-then-out-lt-OUTPUT c = let a = c.args in
 pub returns-in_err-read_ticket : goal.returns-in_err-read_ticket
 returns-in_err-read_ticket c = let a = c.args in
     let p = err_from_is_err_and c.from_residual.result c.from_residual.ensures.1 in
-    rw (p.1, p.2) (ticket_misread a.ticket.now a.stops a.out.now (omega arith) c.in_err-read_ticket.ensures)
+    rw (p.1, p.2) (ticket_misread a.ticket.now a.stops a.out.now (omega arith) c.in_err-read_ticket.ensures.value)
 
 pub work-requires : goal.work-requires
-work-requires c = (read_valid c.args.ticket.now c.in_ok-read_ticket.ensures (λ i. omega (arith, c.type_inv.ticket i)), omega arith)
+work-requires c = (read_valid c.args.ticket.now c.in_ok-read_ticket.ensures.value (λ i. omega (arith, c.type_inv.ticket i)), omega arith)
 
 pub returns : goal.returns
 returns c = let a = c.args in
-    c.work.ensures ∙ ticket_worked a.ticket.now a.stops a.out.now (omega arith) c.in_ok-read_ticket.ensures
+    c.work.ensures ∙ ticket_worked a.ticket.now a.stops a.out.now (omega arith) c.in_ok-read_ticket.ensures.value

@@ -1,15 +1,7 @@
--- `text::put_word` meets its contract: the word stands in the place of as many bytes. Assumes nothing.
-use Rattle.std.proofs.Common.{arith, refl, ◌≡◌, ◌-◌, ◌+◌, length, append_assoc}
-use Rattle.std.proofs.lemmas.List.Edits.{sets-eq}
-use Rattle.std.proofs.lemmas.List.{drop-drop}
+-- `text::put_word` meets its contract. The invariant: the first i bytes of the word are put. Assumes nothing.
+use native.Mathlib.Omega.{arith}
+use Rattle.text.specs.Stores.{puts_more}
 use Rattle.text.proofs.put_word.Goals as goal
 
-pub returns : goal.returns
-returns c =
-    let word = c.args.word.now in
-    let k : c.args.at + length word - c.args.at ≡ length word = omega arith in
-    record {
-      stored = rw (sets-eq word c.args.out.now c.args.at c.requires, c.copy_from_slice.ensures.after, k, append_assoc, drop-drop) refl;
-      end = refl;
-      inside = c.requires;
-    }
+pub loop-i-preserved : goal.loop-i-preserved
+loop-i-preserved c = puts_more c.args.word.now c.loop-i.i (omega arith) (omega arith) c.loop-i.invariant

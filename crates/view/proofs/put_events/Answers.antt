@@ -15,12 +15,12 @@ use Rattle.view.proofs.put_events.Goals as goal
 
 pub loop-i-init : goal.loop-i-init
 unfolding seen_to each
-loop-i-init c = (canonical_few c.args.r c.requires.0, refl, refl, refl)
+loop-i-init c = (canonical_few c.args.r.now c.requires.0, refl, refl, refl)
 
 pub show_event-k-requires : goal.show_event-k-requires
 show_event-k-requires c = let a = c.args in
     let l = c.loop-i in
-    (omega (arith, to_most a.caller (state_of a.r) l.i), c.requires.0.bits _, omega arith)
+    (omega (arith, to_most a.caller (state_of a.r.now) l.i), c.requires.0.bits _, omega arith)
 
 pub loop-i-preserved : goal.loop-i-preserved
 loop-i-preserved c = let a = c.args in
@@ -29,14 +29,14 @@ loop-i-preserved c = let a = c.args in
     let inside = c.loop-i-test.true in (
       l.invariant.0,
       p.auto.out ∙ l.invariant.1,
-      p.ensures.value ∙ count_more a.r a.caller l.i inside c.may_see.ensures l.invariant.2,
-      p.ensures.out_after ∙ bytes_more a.r a.caller l.i inside c.may_see.ensures l.invariant.2 a.out.now l.invariant.3,
+      p.ensures.value ∙ count_more a.r.now a.caller l.i inside c.may_see.ensures l.invariant.2,
+      p.ensures.out_after ∙ bytes_more a.r.now a.caller l.i inside c.may_see.ensures l.invariant.2 a.out.now l.invariant.3,
     )
 
 pub returns : goal.returns
 returns c = let a = c.args in
     let l = c.loop-i in
-    let e : l.i ≡ events (state_of a.r).ticket = omega (arith, in_events a.r.ticket) in record {
-      value = l.invariant.2 ∙ ap (λ n. length (seen_to n a.caller (state_of a.r))) e;
-      out_after = l.invariant.3 ∙ ap (λ n. sets a.out.now 2 (each write_seen (seen_to n a.caller (state_of a.r)))) e;
+    let e : l.i ≡ events (state_of a.r.now).ticket = omega (arith, in_events a.r.now.ticket) in record {
+      value = l.invariant.2 ∙ ap (λ n. length (seen_to n a.caller (state_of a.r.now))) e;
+      out_after = l.invariant.3 ∙ ap (λ n. sets a.out.now 2 (each write_seen (seen_to n a.caller (state_of a.r.now)))) e;
     }

@@ -15,7 +15,7 @@ use Rattle.view.proofs.write_view.Goals.{After-put_events-k}
 
 -- how many events are seen
 few : (c : After-put_events-k) → c.put_events-k.result ≤ 40
-few c = let s = state_of c.args.r in
+few c = let s = state_of c.args.r.now in
     omega (arith, c.put_events-k.ensures.value, length_view c.args.caller s, view_fits c.args.caller s c.requires.0.readable)
 
 pub fit-requires : goal.fit-requires
@@ -26,7 +26,7 @@ fit-requires c =
 pub returns-then-not-fit : goal.returns-then-not-fit
 unfolding window_list
 returns-then-not-fit c = let a = c.args in
-    let whole = meets_refused (viewed_unfit a.caller (state_of a.r) a.out.now (c.fit.ensures ∙ c.if-not-fit.true)) refl in
+    let whole = meets_refused (viewed_unfit a.caller (state_of a.r.now) a.out.now (c.fit.ensures ∙ c.if-not-fit.true)) refl in
     record { value = whole.0; out_after = whole.1 }
 
 pub overflow_mul-result : goal.overflow_mul-result
@@ -38,7 +38,7 @@ overflow_add-result c = omega (arith, few (goal.at.overflow_add-result c).After-
 pub returns : goal.returns
 unfolding window_list
 returns c = let a = c.args in
-    let whole = view_written a.caller (state_of a.r) c.requires.0.readable a.out.now c.requires.1 (c.fit.ensures ∙ c.if-not-fit.false)
+    let whole = view_written a.caller (state_of a.r.now) c.requires.0.readable a.out.now c.requires.1 (c.fit.ensures ∙ c.if-not-fit.false)
     c.put_events-k.ensures.value
     (c.put_u16.ensures ∙ ap (λ o. sets o 0 (bytes 2 c.put_events-k.result)) c.put_events-k.ensures.out_after) in
     record { value = whole.0; out_after = whole.1 }

@@ -64,21 +64,21 @@ slice_bounds-read_record-end c = sym (length-take-le _ _
 pub unwrap-plan-requires : goal.unwrap-plan-requires
 unwrap-plan-requires c =
     let e = read c.args.latest c.args.ticket.now (λ i. omega (arith, c.type_inv.ticket i)) c.in-Ok.is c.plan_bytes.ensures.answer_is c.plan_bytes.ensures.output_is
-    c.read_record.ensures in
+    c.read_record.ensures.value in
     rw e (search rules)
 
 pub put_plan-next-requires : goal.put_plan-next-requires
 put_plan-next-requires c = let p = c.plan_bytes.ensures in
     let b : Bytes c.args.ticket.now = λ i. omega (arith, c.type_inv.ticket i) in
     let d = (said c.args.latest c.args.ticket.now b c.in-Ok.is p.answer_is).1 in
-    (rw (read_as c.args.latest c.args.ticket.now b c.in-Ok.is p.answer_is p.output_is c.read_record.ensures c.unwrap-plan.ensures) d.readable.valid.events_limit, search rules)
+    (rw (read_as c.args.latest c.args.ticket.now b c.in-Ok.is p.answer_is p.output_is c.read_record.ensures.value c.unwrap-plan.ensures) d.readable.valid.events_limit, search rules)
 
 pub totals-totals-requires : goal.totals-totals-requires
 totals-totals-requires c = let p = c.plan_bytes.ensures in
     let b : Bytes c.args.ticket.now = λ i. omega (arith, c.type_inv.ticket i) in
     let d = (said c.args.latest c.args.ticket.now b c.in-Ok.is p.answer_is).1 in
     let e = sym (said_ticket d c.unwrap-plan.result
-    (read_as c.args.latest c.args.ticket.now b c.in-Ok.is p.answer_is p.output_is c.read_record.ensures c.unwrap-plan.ensures)) in
+    (read_as c.args.latest c.args.ticket.now b c.in-Ok.is p.answer_is p.output_is c.read_record.ensures.value c.unwrap-plan.ensures)) in
     (subst Valid e d.readable.valid, subst (λ k. T (consistent k)) e d.possible)
 
 pub returns : goal.returns
@@ -87,7 +87,7 @@ returns c = let p = c.plan_bytes.ensures in
     let d = (said c.args.latest c.args.ticket.now b c.in-Ok.is p.answer_is).1 in
     let q = puts_as
     (said_text d c.unwrap-plan.result c.in-Ok.accepted.total c.totals-totals.result
-    (read_as c.args.latest c.args.ticket.now b c.in-Ok.is p.answer_is p.output_is c.read_record.ensures c.unwrap-plan.ensures)
+    (read_as c.args.latest c.args.ticket.now b c.in-Ok.is p.answer_is p.output_is c.read_record.ensures.value c.unwrap-plan.ensures)
     (ap (λ (x : Answer). x.total) (numbers c.args.latest c.args.ticket.now b c.in-Ok.is p.answer_is)) c.totals-totals.ensures)
     (puts_then c.put_plan-next.ensures.puts c.put_totals.ensures.puts) in record {
       puts = q;
