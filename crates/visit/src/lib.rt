@@ -14,7 +14,7 @@ use network::BIAS;
 // The distance of a node that is not found.
 pub const FAR: u32 = 8_000_000;
 
-// What a search has found.
+// What a search has found, from `start` on; before it all numbers are 0.
 #[derive(Drop)]
 pub struct Trail {
     // the node that the search starts from
